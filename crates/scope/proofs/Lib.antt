@@ -1,0 +1,3 @@
+pub mod Walks
+pub mod Counts
+pub mod Cases

@@ -1,0 +1,14 @@
+pub mod Codes
+pub mod Words
+pub mod Machine
+pub mod Evm
+pub mod Rules
+pub mod Shuffle
+pub mod Moments
+pub mod Legal
+pub mod Replay
+pub mod Stack
+pub mod Tracked
+pub mod JobFile
+pub mod Once
+pub mod Cases
