@@ -1,3 +1,13 @@
+pub mod Branches
 pub mod Walks
 pub mod Counts
+pub mod Exact
+pub mod Kept
+pub mod Steps
+pub mod Plans
+pub mod Run
+pub mod Completed
+pub mod Success
+pub mod OnEvm
+pub mod Once
 pub mod Cases
