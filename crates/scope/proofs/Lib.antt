@@ -1,3 +1,4 @@
+pub mod Cases
 pub mod Branches
 pub mod Walks
 pub mod Counts
@@ -10,4 +11,3 @@ pub mod Completed
 pub mod Success
 pub mod OnEvm
 pub mod Once
-pub mod Cases
