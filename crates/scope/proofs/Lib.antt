@@ -11,3 +11,5 @@ pub mod Completed
 pub mod Success
 pub mod OnEvm
 pub mod Once
+pub mod Loops
+pub mod Answers
