@@ -62,7 +62,7 @@ pub ruleset looking = (slot-some, slot-none)
 -- ---- what an answer that is a value or nothing says
 
 module _ (first i : ℕ) (w : Word) (is : wordOf w ≡ numbered first (some i)) where
-  nameless : w ≡ Nothing → ltb 4294967295 (first + i) ≡ true
+  pub nameless : w ≡ Nothing → ltb 4294967295 (first + i) ≡ true
   nameless q = go (ltb 4294967295 (first + i)) refl
     where
       go : (b : Bool) → ltb 4294967295 (first + i) ≡ b → ltb 4294967295 (first + i) ≡ true
@@ -70,14 +70,14 @@ module _ (first i : ℕ) (w : Word) (is : wordOf w ≡ numbered first (some i)) 
       go false e = absurd (Option·none-ne-some (first + i) (ap wordOf (sym q) ∙ is ∙ rw e))
 
   module _ (id : ℕ) (q : w ≡ Is id) where
-    named : ltb 4294967295 (first + i) ≡ false
+    pub named : ltb 4294967295 (first + i) ≡ false
     named = go (ltb 4294967295 (first + i)) refl
       where
         go : (b : Bool) → ltb 4294967295 (first + i) ≡ b → ltb 4294967295 (first + i) ≡ false
         go true e = absurd (Option·some-ne-none id (ap wordOf (sym q) ∙ is ∙ rw e))
         go false e = e
 
-    name : id ≡ first + i
+    pub name : id ≡ first + i
     name = let e = named in Option·some-injective id (first + i) (ap wordOf (sym q) ∙ is ∙ rw e)
 
 module _ (raw : List ℕ) (n len : ℕ) (w : Word) (takes : Takes (popOn (kept raw n)) w len raw raw) where
