@@ -33,7 +33,7 @@ pub fifo-none : (raw : List ℕ) → fifo raw 0 ≡ []
 unfolding fifo
 fifo-none raw = let h : length raw ≤ length raw - 0 = omega arith in drop-of-length-le raw h
 
-laid-fifo : (raw : List ℕ) (n : ℕ) → raw ≡ laid (fifo raw n) raw
+pub laid-fifo : (raw : List ℕ) (n : ℕ) → raw ≡ laid (fifo raw n) raw
 unfolding laid fifo
 laid-fifo raw n =
     let e : length raw - length (drop (length raw - n) raw) ≡ length raw - n = simp length-drop (omega arith) in
@@ -89,20 +89,20 @@ module _ (raw : List ℕ) (full : length raw ≡ 1024) (len h : ℕ) (is : h ≡
   same : l ≡ fifo raw h
   same = fifo-same raw len h (omega arith)
 
-  -- what a caller that found the height may say of the list
+  -- what a caller that found the height may say of the list, and of scope's tests of it
   pub length-height : length (fifo raw len) ≡ h
   length-height = length-fifo raw len ∙ sym is
 
-  empty : h ≡ 0 → eqb (length l) 0 ≡ true
+  pub empty : h ≡ 0 → eqb (length l) 0 ≡ true
   empty e = eq-eqb (length l) 0 (length-height ∙ e)
 
-  some-there : (h ≡ 0 → ⊥) → eqb (length l) 0 ≡ false
+  pub some-there : (h ≡ 0 → ⊥) → eqb (length l) 0 ≡ false
   some-there ne = ne-eqb (length l) 0 (λ z. ne (sym length-height ∙ z))
 
-  outside : (k : ℕ) → h ≤ k → leb (length l) k ≡ true
+  pub outside : (k : ℕ) → h ≤ k → leb (length l) k ≡ true
   outside k d = let n = length-height in le-leb (length l) k (omega arith)
 
-  inside : (k : ℕ) → k < h → leb (length l) k ≡ false
+  pub inside : (k : ℕ) → k < h → leb (length l) k ≡ false
   inside k d = let n = length-height in lt-leb (length l) k (omega arith)
 
   -- a refusal leaves the words and the length as they were
