@@ -1,0 +1,20 @@
+-- The value is looked for among the top ones.
+use borrow.Author.Needs.{needs}
+use native.Mathlib.Omega.{arith}
+use lib.ListN.{length-take}
+use Rattle.scope.specs.Rules.{outOfReach}
+use Rattle.rules.proofs.grow.out_of_reach.Statement.{statement}
+use Rattle.rules.proofs.grow.out_of_reach.Tie as tie
+
+returns : tie.Need-returns
+unfolding outOfReach
+returns c = rw (← (c .before .before .at .ensures), ← (c .occurs .ensures))
+
+pub out-of-reach-spec : {M : Type 1} → statement M
+out-of-reach-spec =
+    tie.close
+    (tie.spec
+    (λ c κs. search needs)
+    (λ c. simp length-take (omega arith))
+    (λ c κs. search needs)
+    returns)
