@@ -1,7 +1,7 @@
 -- (u), (v), (w): what a push brings; and what a tick of grow does after the push test's answer.
 use Prim.Native.Nat.{ℕ, _+_, _-_, _<_, _≤_, min, max}
 use native.Mathlib.Omega.{arith}
-use native.Mathlib.Decide.{decLe}
+use native.Mathlib.Decide.{decLe, decLt}
 use mathlib.Core.Path.{_≡_, refl, sym, ap, _∙_}
 use mathlib.Core.Bool.{Bool, true, false, not, _&&_, true≢false, false≢true}
 use mathlib.Core.Option.{Option, none, some}
@@ -15,37 +15,16 @@ use Rattle.scope.specs.declared.Found.the-variants.{At, Nothing}
 use Rattle.scope.specs.Words.{lowest, highest, holds, firstOf, latestOf, _∈_, count, _at_, _from_}
 use Rattle.scope.specs.Stack.{foundOf}
 use Rattle.scope.specs.Rules.{Job, State, Plan, _▹_, Asked, yes as Yes, no as No, outside, differs, needsCopy, outOfReach, mayPush, storeUnlessPush, load, loadSlot, store, ruleU, ruleV, ruleW, growPlan}
-use Rattle.scope.proofs.Walks.{lowest-some, highest-some, in-take}
-use Rattle.scope.proofs.Counts.{count-in, count-out}
+use Rattle.scope.proofs.Walks.{lowest-found, lowest-again, lowest-out, highest-some}
 use Rattle.rules.specs.declared.Choice.{Choice}
 use Rattle.rules.specs.declared.Choice.the-variants.{Pass, Store, Load, Dup, Refuse}
-use Rattle.rules.specs.declared.Answer.{Answer}
-use Rattle.rules.specs.declared.Answer.the-variants.{Yes as SaysYes, No as SaysNo, Outside as SaysOutside}
-use Rattle.rules.specs.Promises.{Chosen, askedOf, copyFrom, loading, job, state, _then_, settling, getting, pushing}
-use Rattle.rules.proofs.Stages.{found-some, found-none}
-use Rattle.rules.proofs.Burying.{asked-inside, asked-outside, push-low}
-
--- ---- the tests
-
-pub out-of-reach : (C T P : List ℕ) (k p v : ℕ) (b : Bool) → v ≡ (T at p) → P ≡ take k C → b ≡ (v ∈ P) → not b ≡ outOfReach C T k p
-unfolding outOfReach
-out-of-reach C T P k p v b ev ep eb = rw (← ev, ← ep, ← eb)
-
-module _ (C T : List ℕ) (s k : ℕ) (w : Bool) (ew : w ≡ differs C T k) where
-  pub unavailable : (a : Bool) → w ≡ true → a ≡ outOfReach C T s k → a ≡ (differs C T k && outOfReach C T s k)
-  unavailable a h ea = rw (← ew, h) ea
-
-  pub available : w ≡ false → false ≡ (differs C T k && outOfReach C T s k)
-  available h = rw (← ew, h)
-
-module _ (C T P : List ℕ) (b p v x : ℕ) (ev : v ≡ (T at p)) (ep : P ≡ (C from b)) (ex : x ≡ count v P) where
-  pub copy-some : (Q : List ℕ) (y : ℕ) → 0 < x → Q ≡ (T from b) → y ≡ count v Q → ltb x y ≡ needsCopy C T b p
-  unfolding needsCopy
-  copy-some Q y h eq ey = rw (← ev, ← ep, count-in v P (omega arith), ← eq, ← ex, ← ey)
-
-  pub copy-none : x ≤ 0 → false ≡ needsCopy C T b p
-  unfolding needsCopy
-  copy-none h = rw (← ev, ← ep, count-out v P (omega arith))
+use Rattle.questions.specs.declared.Answer.{Answer}
+use Rattle.questions.specs.declared.Answer.the-variants.{Yes as SaysYes, No as SaysNo, Outside as SaysOutside}
+use Rattle.rules.specs.Promises.{Chosen, loading, job, state, _then_, settling, getting, pushing}
+use Rattle.questions.specs.Promises.{askedOf, mayPushIn, copyFor}
+use Rattle.questions.proofs.Answers.{found-some, found-none}
+use Rattle.questions.proofs.Burying.{asked-inside, asked-past, push-low}
+use Rattle.questions.proofs.Copying.{copy-is, copy-none, copy-depth}
 
 -- ---- loads
 
@@ -61,6 +40,9 @@ module _ (L : List ℕ) (v : ℕ) (f : Found) (e : foundOf f ≡ latestOf v L) w
   load-none h C T c S D = record { is = λ first slots room os. rw (found-none (latestOf v L) f e h); fit = λ _. omega arith }
 
 -- ---- (u)
+
+asked-outside : (p n t : ℕ) → min n t ≤ p → (ltb p n && ltb p t) ≡ false
+asked-outside p n t a = elim (decLt p n) [ yes l ↦ asked-past p n t (omega arith) | no l ↦ rw (le-ltb p n (omega arith)) ]
 
 module _ (C T L : List ℕ) (S : ℕ) where
   pub u-low : length C < S → (c D : ℕ) → Chosen 0 C T L c S D ruleU Pass
@@ -93,47 +75,38 @@ module _ (C T L : List ℕ) (S : ℕ) where
 
 -- ---- (v)
 
-and-first : (a b : Bool) → (a && b) ≡ true → a ≡ true
-and-first true b e = refl
-and-first false b e = absurd (false≢true e)
+pub v-again : (C T : List ℕ) (b p : ℕ) (f : Found) → lowest p (min (length C) (length T)) (needsCopy C T b) ≡ lowest b (min (length C) (length T)) (needsCopy C T b)
+    → p < min (length C) (length T) → foundOf f ≡ copyFor C T b p → f ≡ Nothing
+    → lowest (p + 1) (min (length C) (length T)) (needsCopy C T b) ≡ lowest b (min (length C) (length T)) (needsCopy C T b)
+v-again C T b p f k l e h = lowest-again b (min (length C) (length T)) p (needsCopy C T b) l (copy-none C T b p (found-none _ f e h)) k
 
 module _ (C T : List ℕ) (D : ℕ) where
   pub v-empty : length C ≡ 0 → (L : List ℕ) (c S : ℕ) → Chosen 0 C T L c S D ruleV Pass
   unfolding ruleV
   v-empty z L c S = record { is = λ first slots room os. rw (eq-eqb (length C) 0 z); fit = λ _. omega arith }
 
-  module _ (m b : ℕ) (s : Found) (some₀ : length C ≡ 0 → ⊥) (em : m ≡ min D (length C - 1)) (eb : b ≡ length C - 1 - m) (es : foundOf s ≡ copyFrom C T b) where
-    start : b ≡ length C - 1 - min D (length C - 1)
-    start = rw (← em) eb
+  module _ (b : ℕ) (some₀ : length C ≡ 0 → ⊥) (start : b ≡ length C - 1 - min D (length C - 1)) where
+    module _ (p d : ℕ) (f : Found) (e : foundOf f ≡ copyFor C T b p) (h : f ≡ At d) where
+      copied : copyFor C T b p ≡ some d
+      copied = found-some _ f e d h
 
-    pub v-none : s ≡ Nothing → (L : List ℕ) (c S : ℕ) → Chosen 0 C T L c S D ruleV Pass
-    unfolding ruleV
-    v-none h L c S = record { is = λ first slots room os. rw (ne-eqb (length C) 0 some₀, ← start, found-none _ s es h); fit = λ _. omega arith }
+      pub v-small : d ≤ D
+      v-small = omega (arith, copy-depth C T b p d copied)
 
-    module _ (p v : ℕ) (d : Found) (h : s ≡ At p) (ev : v ≡ (T at p)) (ed : foundOf d ≡ firstOf v C) where
-      first-at : (i : ℕ) → d ≡ At i → firstOf (T at p) C ≡ some i
-      first-at i g = rw (← ev) (found-some _ d ed i g)
-
-      pub v-small : (i : ℕ) → d ≡ At i → i ≤ D
-      unfolding needsCopy firstOf holds
-      v-small i g =
-          let y = lowest-some _ _ _ _ (first-at i g) in
-          let z = in-take (T at p) (length C - b) C (and-first _ _ (lowest-some _ _ _ _ (found-some _ s es p h) .has)) in
-          elim (decLe i (z .0)) [ yes l ↦ omega (arith, z .1, start) | no l ↦ absurd (true≢false (sym (z .2) ∙ y .none-lower (z .0) (omega arith) (omega arith))) ]
-
-      pub v-dup : (i k : ℕ) → d ≡ At i → k ≡ i → (L : List ℕ) (c S : ℕ) → Chosen 0 C T L c S D ruleV (Dup k)
-      unfolding ruleV firstOf
-      v-dup i k g ek L c S =
-          record {
-            is = λ first slots room os. rw (ne-eqb (length C) 0 some₀, ← start, found-some _ s es p h, first-at i g, ek);
-            fit = λ _. rw ek (lowest-some _ _ _ _ (first-at i g) .below);
-          }
-
-      pub v-nowhere : d ≡ Nothing → (L : List ℕ) (c S : ℕ) → Chosen 0 C T L c S D ruleV Pass
+      pub v-dup : (k : ℕ) → p < min (length C) (length T) → lowest p (min (length C) (length T)) (needsCopy C T b) ≡ lowest b (min (length C) (length T)) (needsCopy C T b)
+          → k ≡ d → (L : List ℕ) (c S : ℕ) → Chosen 0 C T L c S D ruleV (Dup k)
       unfolding ruleV
-      v-nowhere g L c S =
-          let q : firstOf (T at p) C ≡ none = rw (← ev) (found-none _ d ed g) in
-          record { is = λ first slots room os. rw (ne-eqb (length C) 0 some₀, ← start, found-some _ s es p h, q); fit = λ _. omega arith }
+      v-dup k l i ek L c S =
+          let y = copy-is C T b p d copied in
+          let q = lowest-found b (min (length C) (length T)) p (needsCopy C T b) l (y .0) i in
+          record { is = λ first slots room os. rw (ne-eqb (length C) 0 some₀, ← start, q, y .1, ek); fit = λ _. omega (arith, copy-depth C T b p d copied) }
+
+    pub v-pass : (p : ℕ) → min (length C) (length T) ≤ p → lowest p (min (length C) (length T)) (needsCopy C T b) ≡ lowest b (min (length C) (length T)) (needsCopy C T b)
+        → (L : List ℕ) (c S : ℕ) → Chosen 0 C T L c S D ruleV Pass
+    unfolding ruleV
+    v-pass p l i L c S =
+        let q = lowest-out b (min (length C) (length T)) p (needsCopy C T b) l i in
+        record { is = λ first slots room os. rw (ne-eqb (length C) 0 some₀, ← start, q); fit = λ _. omega arith }
 
 -- ---- (w)
 
@@ -150,9 +123,10 @@ module _ (C T L : List ℕ) (c D k : ℕ) (ek : k ≡ min (D + 1) (length C)) wh
 
 -- ---- after the push test
 
-module _ (C T L : List ℕ) (c S D : ℕ) (a : Answer) (e : (c D first slots room : ℕ) (os : List Op) → askedOf a ≡ mayPush (job S D T first slots room) (state C c L os)) where
+module _ (C T L : List ℕ) (c S D : ℕ) (a : Answer) (e : askedOf a ≡ mayPushIn C T L S) where
   said : (x : Asked) → askedOf a ≡ x → (first slots room : ℕ) (os : List Op) → mayPush (job S D T first slots room) (state C c L os) ≡ x
-  said x h first slots room os = sym (e c D first slots room os) ∙ h
+  unfolding mayPush
+  said x h first slots room os = sym e ∙ h
 
   pub push-yes : (r : Choice) → a ≡ SaysYes → Chosen 0 C T L c S D getting r → Chosen 0 C T L c S D pushing r
   unfolding storeUnlessPush
@@ -162,7 +136,7 @@ module _ (C T L : List ℕ) (c S D : ℕ) (a : Answer) (e : (c D first slots roo
   high : a ≡ SaysNo → S < length C
   high h =
       elim (decLe (length C) S) [
-        | yes l ↦ let q = push-low C T L S l c D 0 0 0 [] ∙ said No (ap askedOf h) 0 0 0 [] in let z : _≡_ {A = ℕ} 0 1 = cc in absurd (omega arith)
+        | yes l ↦ let q = push-low C T L S l ∙ sym e ∙ ap askedOf h in let z : _≡_ {A = ℕ} 0 1 = cc in absurd (omega arith)
         | no l ↦ omega arith
       ]
 

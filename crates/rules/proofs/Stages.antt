@@ -1,36 +1,17 @@
--- How a choice's promise goes through a chain of rules, and what a search's answer says.
+-- How a choice's promise goes through a chain of rules.
 use Prim.Native.Nat.{ℕ, _≤_}
 use native.Mathlib.Omega.{arith}
 use mathlib.Core.Path.{_≡_, refl, sym, ap, _∙_}
 use mathlib.Core.Bool.{Bool, true, false, true≢false, false≢true}
-use mathlib.Core.Option.{Option, none, some}
 use mathlib.Core.List.{List, [], _∷_}
-use lib.ListN.{length, getD}
+use lib.ListN.{length}
 use types.Run.{OneOf, miss}
 use denote.Enum.Declared.{tagOf}
 use Rattle.rules.proofs.Choice.{the-type}
-use Rattle.scope.specs.declared.Found.{Found}
-use Rattle.scope.specs.declared.Found.the-variants.{At, Nothing}
-use Rattle.scope.specs.Stack.{foundOf}
 use Rattle.scope.specs.Rules.{Job, State, Plan, pass, _▹_}
 use Rattle.rules.specs.declared.Choice.{Choice}
 use Rattle.rules.specs.declared.Choice.the-variants.{Pass, Pop, Swap, SwapPop, Swaps, Store, Load, Dup, Refuse}
 use Rattle.rules.specs.Promises.{Chosen, planOf, applies, job, state, _then_}
-
--- ---- a search's answer
-
-module _ (x : Option ℕ) (b : Found) (e : foundOf b ≡ x) where
-  pub found-some : (p : ℕ) → b ≡ At p → x ≡ some p
-  found-some p h = sym e ∙ ap foundOf h
-
-  pub found-none : b ≡ Nothing → x ≡ none
-  found-none h = sym e ∙ ap foundOf h
-
--- ---- the top of an empty stack is the default
-
-pub top-empty : (C : List ℕ) → length C ≡ 0 → 0 ≡ getD C 0 0
-top-empty [] e = refl
-top-empty (x ∷ C) e = absurd (omega arith)
 
 -- ---- which choices apply
 

@@ -3,7 +3,7 @@ use Prim.Native.Nat.{ℕ, _+_, _-_, _<_, _≤_, min, max}
 use native.Mathlib.Omega.{arith}
 use mathlib.Core.Path.{_≡_, refl, sym, ap, _∙_}
 use mathlib.Core.Bool.{Bool, true, false, not, _&&_}
-use mathlib.Core.Option.{Option, none, some, Option·none-ne-some, Option·some-ne-none}
+use mathlib.Core.Option.{Option, none, some, Option·none-ne-some}
 use mathlib.Core.List.{List}
 use lib.ListN.{length, getD}
 use lib.Dec.{eqb}
@@ -14,8 +14,9 @@ use Rattle.scope.specs.Stack.{foundOf}
 use Rattle.scope.specs.Rules.{differs, wantsTop, extra, extraAt, givesFor, giver, canBeSetRight, ruleB, ruleD, ruleX}
 use Rattle.scope.proofs.Walks.{lowest-some, lowest-found, lowest-again, lowest-out}
 use Rattle.rules.specs.declared.Choice.the-variants.{Pass, Swap, SwapPop, Swaps}
-use Rattle.rules.specs.Promises.{Chosen, sourceOf}
-use Rattle.rules.proofs.Stages.{found-some, found-none}
+use Rattle.rules.specs.Promises.{Chosen}
+use Rattle.questions.specs.Promises.{sourceFor}
+use Rattle.questions.proofs.Answers.{found-some, found-none}
 
 module _ (C T : List ℕ) (c S v : ℕ) (top : v ≡ getD C 0 0) where
   pub b-swap : (p k : ℕ) → lowest (max c (length C - 1 - S)) (min (length C) (length T)) (wantsTop C T v) ≡ some p → k ≡ length C - 1 - p
@@ -46,30 +47,24 @@ module _ (C T : List ℕ) (f p : ℕ) where
   source-wrong false e x h = ap found h
 
   -- a position can be set right exactly where its source is found
-  pub can-be-set-right : (x : Option ℕ) → sourceOf C T f p ≡ x → canBeSetRight C T f p ≡ found x
+  pub can-be-set-right : (x : Option ℕ) → sourceFor C T f p ≡ x → canBeSetRight C T f p ≡ found x
   unfolding canBeSetRight
   can-be-set-right x h = source-wrong (differs C T p) refl x h
 
-  pub source-giver : (q : ℕ) → sourceOf C T f p ≡ some q → giver C T f p ≡ some q
+  pub source-giver : (q : ℕ) → sourceFor C T f p ≡ some q → giver C T f p ≡ some q
   source-giver q h = go (differs C T p) h
     where
       go : (b : Bool) → (if b then giver C T f p else none) ≡ some q → giver C T f p ≡ some q
       go true e = e
       go false e = absurd (Option·none-ne-some q e)
 
-  pub source-right : (w : Bool) → w ≡ differs C T p → w ≡ false → none ≡ sourceOf C T f p
-  source-right w e h = rw (← e, h)
-
-  pub source-given : (w : Bool) (x : Option ℕ) → w ≡ differs C T p → w ≡ true → x ≡ giver C T f p → x ≡ sourceOf C T f p
-  source-given w x e h g = rw (← e, h) g
-
   -- a position without a source is passed by
-  pub x-again : (src : Found) → lowest p (min (length C) (length T)) (canBeSetRight C T f) ≡ lowest f (min (length C) (length T)) (canBeSetRight C T f) → p < min (length C) (length T) → foundOf src ≡ sourceOf C T f p → src ≡ Nothing
+  pub x-again : (src : Found) → lowest p (min (length C) (length T)) (canBeSetRight C T f) ≡ lowest f (min (length C) (length T)) (canBeSetRight C T f) → p < min (length C) (length T) → foundOf src ≡ sourceFor C T f p → src ≡ Nothing
       → lowest (p + 1) (min (length C) (length T)) (canBeSetRight C T f) ≡ lowest f (min (length C) (length T)) (canBeSetRight C T f)
   x-again src k l e h = lowest-again f (min (length C) (length T)) p (canBeSetRight C T f) l (can-be-set-right none (found-none _ src e h)) k
 
 module _ (C T : List ℕ) (c S f : ℕ) (floor : f ≡ max c (length C - 1 - S)) where
-  module _ (p q : ℕ) (src : Found) (e : foundOf src ≡ sourceOf C T f p) (h : src ≡ At q) where
+  module _ (p q : ℕ) (src : Found) (e : foundOf src ≡ sourceFor C T f p) (h : src ≡ At q) where
     x-giver : giver C T f p ≡ some q
     x-giver = source-giver C T f p q (found-some _ src e q h)
 
@@ -99,17 +94,6 @@ module _ (C T : List ℕ) (c S f : ℕ) (floor : f ≡ max c (length C - 1 - S))
     x-pass l L D =
         let y = lowest-out f (min (length C) (length T)) p (canBeSetRight C T f) l k in
         record { is = λ first slots room os. rw (← floor, y); fit = λ _. omega arith }
-
--- ---- the tests
-
-module _ (C T : List ℕ) (p q : ℕ) (w : Bool) (ew : w ≡ differs C T q) where
-  pub gives : (x y : ℕ) → w ≡ true → x ≡ (C at q) → y ≡ (T at p) → eqb x y ≡ givesFor C T p q
-  unfolding givesFor
-  gives x y h ex ey = rw (← ew, h, ← ex, ← ey)
-
-  pub gives-not : w ≡ false → false ≡ givesFor C T p q
-  unfolding givesFor
-  gives-not h = rw (← ew, h)
 
 pub extra-at : (C T : List ℕ) (c p v : ℕ) (b x : Bool) → v ≡ (C at p) → b ≡ extra C T c v → b ≡ x → extraAt C T c p ≡ x
 unfolding extraAt

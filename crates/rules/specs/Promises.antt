@@ -1,19 +1,16 @@
 -- What a choice means: the plan that it stands for, and that it can be performed. What each rule's function promises of its choice.
-use Prim.Native.Nat.{ℕ, zero, suc, _+_, _-_, _<_, _≤_, min}
+use Prim.Native.Nat.{ℕ, _+_, _<_, _≤_}
 use mathlib.Core.Bool.{Bool, true, false}
-use mathlib.Core.Option.{Option, none}
 use mathlib.Core.List.{List, [], _∷_, _++_}
 use mathlib.Core.Path.{_≡_}
 use lib.ListN.{length}
 use lib.Dec.{eqb}
 use Rattle.scope.specs.declared.Op.{Op}
 use Rattle.scope.specs.declared.Op.the-variants.{Swap, Dup, Pop, Store, Load}
-use Rattle.scope.specs.Words.{if_then_else_, lowest}
-use Rattle.scope.specs.Rules.{Job, State, Plan, write, refuse, pass, _▹_, Asked, yes, no, outside, differs, giver, needsCopy, load, counted, ruleA, ruleB, ruleC, ruleX, ruleU, ruleV, ruleW, storeUnlessPush}
+use Rattle.scope.specs.Words.{if_then_else_}
+use Rattle.scope.specs.Rules.{Job, State, Plan, write, refuse, pass, _▹_, load, counted, ruleA, ruleB, ruleC, ruleX, ruleU, ruleV, ruleW, storeUnlessPush}
 use Rattle.rules.specs.declared.Choice.{Choice}
 use Rattle.rules.specs.declared.Choice.the-variants.{Pass, Pop as PopTop, Swap as SwapTop, SwapPop, Swaps, Store as StoreTop, Load as LoadSlot, Dup as DupDepth, Refuse}
-use Rattle.rules.specs.declared.Answer.{Answer}
-use Rattle.rules.specs.declared.Answer.the-variants.{Yes, No, Outside}
 
 -- the choice is one of this rule, so that no later rule is asked
 abbrev pub applies : Choice → Bool
@@ -85,20 +82,6 @@ pushing j s = storeUnlessPush j s ▹ getting j s
 -- the load of a value, as a plan
 abbrev pub loading : ℕ → Job → State → Plan
 loading v j s = load j s v
-
--- the push test's answers
-abbrev pub askedOf : Answer → Asked
-askedOf Yes = yes
-askedOf No = no
-askedOf Outside = outside
-
--- where (x) finds the value for a position that is wrong
-abbrev pub sourceOf : List ℕ → List ℕ → ℕ → ℕ → Option ℕ
-sourceOf C T f p = if differs C T p then giver C T f p else none
-
--- where (v) finds a value that needs another copy
-abbrev pub copyFrom : List ℕ → List ℕ → ℕ → Option ℕ
-copyFrom C T b = lowest b (min (length C) (length T)) (needsCopy C T b)
 
 -- counting looks at the stack, the target and the count
 abbrev pub countedIn : List ℕ → List ℕ → ℕ → ℕ

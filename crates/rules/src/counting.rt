@@ -4,9 +4,9 @@ ghost use Prim.Native.Nat.{_<_};
 ghost use lib.ListN.{length};
 ghost use Rattle.scope.specs.Rules as R;
 ghost use Rattle.rules.specs.Promises as K;
-use super::differs;
 use indices::FromBottom;
 use indices::Side;
+use questions::differs;
 
 // Whether counting goes no further than a position: the stacks differ there, or the target has the value again above and the current
 // stack has not.

@@ -1,63 +1,26 @@
 // Grow: (x), (u), (v), (w), and the order in which a tick of grow tries the rules.
 ghost use mathlib.Core.Path.{_≡_};
-ghost use mathlib.Core.Bool.{_&&_};
 ghost use mathlib.Core.List.{List};
-ghost use Prim.Native.Nat.{ℕ, _≤_, _<_};
-ghost use lib.ListN.{length};
-ghost use Rattle.scope.specs.Words.{if_then_else_};
-ghost use Rattle.scope.specs.Stack.{foundOf};
+ghost use Prim.Native.Nat.{ℕ};
 ghost use Rattle.scope.specs.Rules as R;
 ghost use Rattle.rules.specs.Promises as K;
-use super::Answer;
 use super::Choice;
 use super::applies;
 use super::depth;
-use super::differs;
-use super::floor;
-use super::push::can_push;
 use super::shrink::pop_extra;
 use super::shrink::pop_unneeded;
 use super::shrink::swap_to_correct_position;
 use super::within;
 use indices::FromBottom;
 use indices::FromTop;
-use indices::Side;
+use questions::Answer;
+use questions::floor;
+use questions::grow::copy_for;
+use questions::grow::is_unavailable;
+use questions::grow::out_of_reach;
+use questions::grow::source_for;
+use questions::push::can_push;
 use scope::Found;
-
-// Whether the current stack's value at q is wrong there and is the one wanted at another position.
-fn gives_for<'a>(current: &'a [u32], target: &'a [u32], p: FromBottom, q: FromBottom) -> bool
-    ensures { λ r. ⌜ r ≡ R.givesFor (now (current .entry)) (now (target .entry)) (p .0) (q .0) ⌝ }
-{
-    if differs(current, target, q) {
-        return indices::at(current, q) == indices::at(target, p);
-    }
-    false
-}
-
-// The lowest position from the floor that gives the value wanted at p, or nothing.
-fn giver<'a>(current: &'a [u32], target: &'a [u32], start: FromBottom, p: FromBottom) -> Found
-    ensures { λ r. ⌜ foundOf r ≡ R.giver (now (current .entry)) (now (target .entry)) (start .0) (p .0) ⌝ }
-{
-    let e = lists::least(current.len(), target.len());
-    let mut q = start.0;
-    while q < e {
-        if gives_for(current, target, p, FromBottom(q)) {
-            return Found::At(q);
-        }
-        q += 1;
-    }
-    Found::Nothing
-}
-
-// The same for a position whose value is wrong; nothing for one whose value is right.
-fn source<'a>(current: &'a [u32], target: &'a [u32], start: FromBottom, p: FromBottom) -> Found
-    ensures { λ r. ⌜ foundOf r ≡ K.sourceOf (now (current .entry)) (now (target .entry)) (start .0) (p .0) ⌝ }
-{
-    if differs(current, target, p) {
-        return giver(current, target, start, p);
-    }
-    Found::Nothing
-}
 
 // (x) Brings the lowest position that can be set right its value, by two swaps through the top.
 fn exchange_via_top<'a>(current: &'a [u32], target: &'a [u32], complete: usize, swaps: u8) -> Choice
@@ -67,7 +30,7 @@ fn exchange_via_top<'a>(current: &'a [u32], target: &'a [u32], complete: usize, 
     let start = floor(current.len(), complete, swaps);
     let mut p = start.0;
     while p < e {
-        let src = source(current, target, start, FromBottom(p));
+        let src = source_for(current, target, start, FromBottom(p));
         if let Found::At(q) = src {
             let down = depth(FromBottom(q), current.len(), swaps);
             let back = depth(FromBottom(p), current.len(), swaps);
@@ -87,26 +50,6 @@ fn unspill(spilled: &[u32], value: u32) -> Choice
         return Choice::Load(i);
     }
     Choice::Refuse(6)
-}
-
-// Whether the target's value at a position is not among the top values of the current stack.
-fn out_of_reach<'a>(current: &'a [u32], target: &'a [u32], reach: usize, p: FromBottom) -> bool
-    requires { ⌜ reach ≤ length (now current) ⌝ }
-    ensures { λ r. ⌜ r ≡ R.outOfReach (now (current .entry)) (now (target .entry)) reach (p .0) ⌝ }
-{
-    let value = indices::at(target, p);
-    !lists::occurs(&current[..reach], value)
-}
-
-// Whether the value at a position is wrong and the right one is out of reach.
-fn is_unavailable<'a>(current: &'a [u32], target: &'a [u32], reach: usize, p: FromBottom) -> bool
-    requires { ⌜ reach ≤ length (now current) ⌝ }
-    ensures { λ r. ⌜ r ≡ (R.differs (now (current .entry)) (now (target .entry)) (p .0) && R.outOfReach (now (current .entry)) (now (target .entry)) reach (p .0)) ⌝ }
-{
-    if differs(current, target, p) {
-        return out_of_reach(current, target, reach, p);
-    }
-    false
 }
 
 // (u) Loads the value for the deepest position that a swap still reaches after one push, where it is wrong and not within reach.
@@ -133,34 +76,6 @@ fn unspill_unavailable_horizon<'a>(
     Choice::Pass
 }
 
-// Whether the target's value at p is in the current stack from a position up, but less often than in the target from there.
-fn needs_copy<'a>(current: &'a [u32], target: &'a [u32], from: FromBottom, p: FromBottom) -> bool
-    ensures { λ r. ⌜ r ≡ R.needsCopy (now (current .entry)) (now (target .entry)) (from .0) (p .0) ⌝ }
-{
-    let value = indices::at(target, p);
-    let available = lists::count_of(indices::part(current, target, Side::Current, from), value);
-    if 0 < available {
-        return available
-            < lists::count_of(indices::part(current, target, Side::Target, from), value);
-    }
-    false
-}
-
-// The lowest position from there whose value needs another copy, or nothing.
-fn copy_needed<'a>(current: &'a [u32], target: &'a [u32], from: FromBottom) -> Found
-    ensures { λ r. ⌜ foundOf r ≡ K.copyFrom (now (current .entry)) (now (target .entry)) (from .0) ⌝ }
-{
-    let e = lists::least(current.len(), target.len());
-    let mut p = from.0;
-    while p < e {
-        if needs_copy(current, target, from, FromBottom(p)) {
-            return Found::At(p);
-        }
-        p += 1;
-    }
-    Found::Nothing
-}
-
 // (v) Copies the lowest value within a dup's reach that needs another copy, from its smallest depth.
 fn dup_needed<'a>(current: &'a [u32], target: &'a [u32], dups: u8) -> Choice
     ensures { λ r. ⌜ ((L : List ℕ) (c S : ℕ) → K.Chosen 0 (now (current .entry)) (now (target .entry)) L c S dups R.ruleV r) ⌝ }
@@ -169,14 +84,15 @@ fn dup_needed<'a>(current: &'a [u32], target: &'a [u32], dups: u8) -> Choice
         return Choice::Pass;
     }
     let reach = lists::least(dups as usize, current.len() - 1);
-    let from = FromTop(reach).to_position(current.len());
-    let place = copy_needed(current, target, from);
-    if let Found::At(p) = place {
-        let copy = lists::find_first(current, indices::at(target, FromBottom(p)));
+    let start = FromTop(reach).to_position(current.len());
+    let e = lists::least(current.len(), target.len());
+    let mut p = start.0;
+    while p < e {
+        let copy = copy_for(current, target, start, FromBottom(p));
         if let Found::At(d) = copy {
             return Choice::Dup(within(FromTop(d), dups));
         }
-        return Choice::Pass;
+        p += 1;
     }
     Choice::Pass
 }

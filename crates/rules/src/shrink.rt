@@ -1,33 +1,19 @@
 // Shrink: (a) to (f), and the order in which a tick of shrink tries them.
 ghost use mathlib.Core.Path.{_≡_};
-ghost use mathlib.Core.Bool.{not, _||_};
 ghost use mathlib.Core.List.{List};
 ghost use Prim.Native.Nat.{ℕ};
-ghost use lib.ListN.{length};
-ghost use lib.Dec.{eqb, leb};
-ghost use Rattle.scope.specs.Words.{_∈_, count, _from_};
 ghost use Rattle.scope.specs.Rules as R;
 ghost use Rattle.rules.specs.Promises as K;
 use super::Choice;
 use super::applies;
 use super::depth;
-use super::floor;
-use super::top;
 use indices::FromBottom;
-use indices::Side;
-
-// Whether the target has no use for a value from the completed positions up.
-fn is_unneeded<'a>(current: &'a [u32], target: &'a [u32], complete: usize, value: u32) -> bool
-    ensures { λ r. ⌜ r ≡ (eqb complete (length (now (target .entry))) || not (value ∈ (now (target .entry) from complete))) ⌝ }
-{
-    if complete == target.len() {
-        return true;
-    }
-    !lists::occurs(
-        indices::part(current, target, Side::Target, FromBottom(complete)),
-        value,
-    )
-}
+use questions::floor;
+use questions::shrink::is_duplicate;
+use questions::shrink::is_extra;
+use questions::shrink::is_unneeded;
+use questions::shrink::wants_top;
+use questions::top;
 
 // (a) Pops the top where it is not needed.
 pub(crate) fn pop_unneeded<'a>(current: &'a [u32], target: &'a [u32], complete: usize) -> Choice
@@ -37,16 +23,6 @@ pub(crate) fn pop_unneeded<'a>(current: &'a [u32], target: &'a [u32], complete: 
         return Choice::Pop;
     }
     Choice::Pass
-}
-
-// Whether the target has a value at a position, and the current stack has not.
-fn wants_top<'a>(current: &'a [u32], target: &'a [u32], value: u32, p: FromBottom) -> bool
-    ensures { λ r. ⌜ r ≡ R.wantsTop (now (current .entry)) (now (target .entry)) value (p .0) ⌝ }
-{
-    if indices::at(target, p) == value {
-        return indices::at(current, p) != value;
-    }
-    false
 }
 
 // (b) Swaps the top to the lowest position from the floor that wants it.
@@ -69,16 +45,6 @@ pub(crate) fn swap_to_correct_position<'a>(
         p += 1;
     }
     Choice::Pass
-}
-
-// Whether a value is more often in the current stack than in the target, both from the completed positions up.
-fn is_extra<'a>(current: &'a [u32], target: &'a [u32], complete: usize, value: u32) -> bool
-    ensures { λ r. ⌜ r ≡ R.extra (now (current .entry)) (now (target .entry)) complete value ⌝ }
-{
-    let from = FromBottom(complete);
-    let target_count = lists::count_of(indices::part(current, target, Side::Target, from), value);
-    let current_count = lists::count_of(indices::part(current, target, Side::Current, from), value);
-    target_count < current_count
 }
 
 // (c) Pops the top where it is extra.
@@ -110,14 +76,6 @@ fn swap_and_pop_extra<'a>(
         p += 1;
     }
     Choice::Pass
-}
-
-// Whether a value is at least twice in the current stack from the completed positions up.
-fn is_duplicate<'a>(current: &'a [u32], target: &'a [u32], complete: usize, value: u32) -> bool
-    ensures { λ r. ⌜ r ≡ leb 2 (count value (now (current .entry) from complete)) ⌝ }
-{
-    let from = FromBottom(complete);
-    2 <= lists::count_of(indices::part(current, target, Side::Current, from), value)
 }
 
 // (e) Pops the top where it is a duplicate.

@@ -1,6 +1,6 @@
 -- Each return is one way in which counting goes on or stops.
 use borrow.Author.Needs.{needs}
-use Rattle.rules.proofs.Burying.{stopping}
+use Rattle.rules.proofs.Completed.{stopping}
 use Rattle.rules.proofs.counting.counting_stops.Statement.{statement}
 use Rattle.rules.proofs.counting.counting_stops.Tie as tie
 

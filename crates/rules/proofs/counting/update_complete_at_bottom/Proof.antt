@@ -7,7 +7,7 @@ use lib.ListN.{length}
 use Rattle.scope.specs.Words.{lowest}
 use Rattle.scope.specs.Rules.{countingStops}
 use Rattle.scope.proofs.Walks.{lowest-again}
-use Rattle.rules.proofs.Burying.{counted-found, counted-none}
+use Rattle.rules.proofs.Completed.{counted-found, counted-none}
 use Rattle.rules.proofs.counting.update_complete_at_bottom.Statement.{statement}
 use Rattle.rules.proofs.counting.update_complete_at_bottom.Tie as tie
 
