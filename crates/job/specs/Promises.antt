@@ -1,4 +1,4 @@
--- What the driver's calls answer: which field and which buffer is which of scope's.
+-- What reading a job answers: which field and which buffer is which of scope's.
 use Prim.Native.Nat.{ℕ, _≤_}
 use mathlib.Core.Option.{Option, none, some}
 use mathlib.Core.List.{List}
@@ -6,9 +6,7 @@ use lib.ListN.{length, getD}
 use Rattle.scope.specs.Codes.{DONE, JOB}
 use Rattle.scope.specs.Machine.{over}
 use Rattle.scope.specs.JobFile.{JobFile}
-use Rattle.job.specs.declared.read.JobRead.{JobRead}
-
--- ---- Reading a job
+use Rattle.job.specs.declared.JobRead.{JobRead}
 
 -- the code, the length of each list, the numbers, and every word of the three buffers
 pub record Read : Type 0 where

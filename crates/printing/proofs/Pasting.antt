@@ -5,13 +5,15 @@ use native.Mathlib.Nat.{add-zero, add-suc, suc-add}
 use native.Mathlib.Numerals.{add-one}
 use mathlib.Core.Path.{_≡_, refl, sym, ap, _∙_}
 use mathlib.Core.Bool.{Bool, true, false}
+use mathlib.Core.Option.{some, none, Option·some-injective, Option·none-ne-some}
 use mathlib.Core.List.{List, [], _∷_, _++_, append-assoc}
 use lib.ListN.{length, getD, set, drop, length-append, drop-of-length-le}
 use lib.Seq.{sets, sets-eq, length-sets, set-comm, drop-cons, drop-drop}
 use lib.Dec.{leb}
 use borrow.Author.Tests.{le-leb, leb-true}
 use Rattle.scope.specs.Machine.{overFrom}
-use Rattle.printing.specs.Promises.{Laid, placed, placedOf}
+use Rattle.printing.specs.Promises.{Laid, Placed, placed, placedOf}
+use Rattle.printing.specs.declared.Printed.{Printed}
 use Rattle.printing.specs.declared.Printed.the-variants.{Wrote, NoRoom}
 
 -- one run of bytes after the other
@@ -36,22 +38,36 @@ module _ (l : List ℕ) (at : ℕ) (bytes : List ℕ) (i : ℕ) (whole : List �
 over-sets : (bytes : List ℕ) (at : ℕ) (l : List ℕ) → at + length bytes ≤ length l → overFrom at bytes l ≡ sets l at bytes
 over-sets bytes at l h = rw (sets-eq, drop-drop, append-assoc)
 
+pub placed-fits : (bytes : List ℕ) (at : ℕ) (l : List ℕ) → at + length bytes ≤ length l → placed bytes at l ≡ record { wrote = some (length bytes); buffer = sets l at bytes }
+unfolding placed
+placed-fits bytes at l h = rw (le-leb (at + length bytes) (length l) h, over-sets bytes at l h)
+
 -- a call that counts the bytes, asks for the room, and stores them
 module _ (bytes : List ℕ) (at : ℕ) (l : List ℕ) (len : ℕ) (b : Bool) (counted : len ≡ length bytes) (asked : b ≡ leb (at + len) (length l)) where
   pub fits : b ≡ true → at + length bytes ≤ length l
   fits h = omega (arith, counted, leb-true (at + len) (length l) (sym asked ∙ h))
 
   pub wrote : (l₁ : List ℕ) (next : ℕ) → b ≡ true → Laid l at bytes l₁ next → placedOf (Wrote len) l₁ ≡ placed bytes at l
-  unfolding placed
-  wrote l₁ next h laid =
-      let room = fits h in
-      rw (counted, le-leb (at + length bytes) (length l) room, over-sets bytes at l room, laid .bytes-are)
+  wrote l₁ next h laid = rw (placed-fits bytes at l (fits h), counted, laid .bytes-are)
 
   pub no-room : b ≡ false → placedOf NoRoom l ≡ placed bytes at l
   unfolding placed
   no-room h = rw (← counted, ← asked, h)
 
 pub ruleset placing = (fits, wrote, no-room)
+
+-- what a call answers to one who has seen that there is room
+module _ (bytes : List ℕ) (at : ℕ) (l l₁ : List ℕ) (r : Printed) (answer : placedOf r l₁ ≡ placed bytes at l) (room : at + length bytes ≤ length l) where
+  answered : placedOf r l₁ ≡ record { wrote = some (length bytes); buffer = sets l at bytes }
+  answered = answer ∙ placed-fits bytes at l room
+
+  pub was-written : (n : ℕ) → r ≡ Wrote n → Laid l at bytes l₁ (at + n)
+  was-written n e =
+      let z : n ≡ length bytes = Option·some-injective n (length bytes) (rw e at (ap (λ (p : Placed). p .wrote) answered)) in
+      record { bytes-are = ap (λ (p : Placed). p .buffer) answered; next-is = omega arith }
+
+  pub had-room : r ≡ NoRoom → Laid l at bytes l₁ at
+  had-room e = absurd (Option·none-ne-some (length bytes) (rw e at (ap (λ (p : Placed). p .wrote) answered)))
 
 -- where there is room for two texts there is room for the first
 pub room-front : (l : List ℕ) (at : ℕ) (a b : List ℕ) → at + length (a ++ b) ≤ length l → at + length a ≤ length l

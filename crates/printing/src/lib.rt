@@ -115,7 +115,7 @@ fn paste_op(out: &mut [u8], at: usize, op: StackOps) -> usize
 
 // How many bytes an operation prints as.
 pub fn printed_len(op: StackOps) -> usize
-    ensures { λ r. ⌜ r ≡ length (printed op) ⌝ }
+    ensures { λ r. ⌜ (r ≡ length (printed op)) × (r ≤ 52) ⌝ }
 {
     match op {
         StackOps::Swap(depth) => 6 + decimal_len(depth as u64),

@@ -1,8 +1,8 @@
 -- Each test's outcome is the definition's.
 use borrow.Author.Needs.{needs}
 use Rattle.job.proofs.Reading.{job-tests, a-job}
-use Rattle.job.proofs.read.is_job.Statement.{statement}
-use Rattle.job.proofs.read.is_job.Tie as tie
+use Rattle.job.proofs.is_job.Statement.{statement}
+use Rattle.job.proofs.is_job.Tie as tie
 
 pub is-job-spec : {M : Type 1} → statement M
 is-job-spec =

@@ -8,8 +8,8 @@ use lib.ListN.{length, length-set}
 use lib.Seq.{sets}
 use Rattle.scope.specs.JobFile.{wordsAt}
 use Rattle.job.proofs.Reading.{words-again, words-done}
-use Rattle.job.proofs.read.read_words.Statement.{statement}
-use Rattle.job.proofs.read.read_words.Tie as tie
+use Rattle.job.proofs.read_words.Statement.{statement}
+use Rattle.job.proofs.read_words.Tie as tie
 
 abbrev Inv-loop : tie.InvT-loop
 Inv-loop bytes at count words₀ i₀ words i = (i ≤ count) × (length words ≡ length words₀) × (sets words i (wordsAt bytes (at + 4 * i) (count - i)) ≡ sets words₀ 0 (wordsAt bytes at count))

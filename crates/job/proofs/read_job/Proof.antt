@@ -5,8 +5,8 @@ use mathlib.Core.Path.{_≡_}
 use lib.ListN.{length}
 use denote.Ref.{now}
 use Rattle.job.proofs.Reading.{is-a-job, read-none, read-some}
-use Rattle.job.proofs.read.read_job.Statement.{statement}
-use Rattle.job.proofs.read.read_job.Tie as tie
+use Rattle.job.proofs.read_job.Statement.{statement}
+use Rattle.job.proofs.read_job.Tie as tie
 
 pub read-job-spec : {M : Type 1} → statement M
 read-job-spec =
