@@ -21,7 +21,9 @@ use Rattle.stack.specs.Promises.{Leaves, blank}
 use Rattle.reader.specs.declared.Record.{Record}
 use Rattle.reader.specs.Promises.{recordAt}
 use Rattle.replay.specs.declared.Limits.{Limits}
-use Rattle.replay.specs.Promises.{lentTo, replayDue, Fits, Turned, OnSlots}
+use Rattle.replay.specs.declared.Turn.{Turn}
+use Rattle.replay.specs.declared.Verdict.{Verdict as Answer}
+use Rattle.replay.specs.Promises.{answered, seen, lentTo, replayDue, Fits, Turned, OnSlots}
 
 -- ---- codes 1 to 5
 
@@ -79,12 +81,12 @@ if-not-zero zero x y ne = absurd (ne refl)
 if-not-zero (suc r) x y ne = refl
 
 -- a verdict whose slots are a buffer's first words, where the buffer beyond them is as it was lent
-seen-is : (e : Lent) (r i g filled : ℕ) (spill : List ℕ) → filled ≤ length spill → drop filled spill ≡ drop filled (e .spill)
-    → record { code = r; index = i; gas = g; filled = filled; spill = spill } ≡ seenVerdict (verdict r i g (take filled spill)) e
-seen-is e r i g filled spill h b =
+seen-is : (e : Lent) (v : Answer) (r i g filled : ℕ) (spill : List ℕ) → v ≡ answered r i g filled → filled ≤ length spill → drop filled spill ≡ drop filled (e .spill)
+    → seen v spill ≡ seenVerdict (verdict r i g (take filled spill)) e
+seen-is e v r i g filled spill u h b =
     let n : length (take filled spill) ≡ filled = length-take-le filled spill h in
     let s : over (take filled spill) (e .spill) ≡ spill = rw (n, ← b) (take-append-drop filled spill) in
-    rw (s, n)
+    rw (u, s, n)
 
 -- The list has been replayed up to the i-th record: what is left gives the verdict of the whole. spill₀ is the buffer as it was lent.
 pub record Replaying (e : Lent) (raw spill : List ℕ) (len filled gas i : ℕ) : Type 0 where
@@ -102,8 +104,8 @@ module _ (start spill₀ target words : List ℕ) (p : Limits) (stored : ℕ) wh
 
   module _ (raw spill : List ℕ) (len filled gas i : ℕ) (now : Replaying e raw spill len filled gas i) where
     -- the record that stands here
-    module _ (x : Record) (read : x ≡ recordAt words (2 * i)) (more : 2 * i + 1 < length words) (code after filled′ g : ℕ) (raw′ spill′ : List ℕ)
-        (one : OnSlots p (x .kind) (x .argument) (fifo raw len) spill filled code filled′ g (fifo raw′ after) spill′) where
+    module _ (x : Record) (read : x ≡ recordAt words (2 * i)) (more : 2 * i + 1 < length words) (r : Turn) (raw′ spill′ : List ℕ)
+        (one : OnSlots p (x .kind) (x .argument) (fifo raw len) spill filled r raw′ spill′) where
       here : drop (2 * i) words ≡ getD words (2 * i) 0 ∷ getD words (2 * i + 1) 0 ∷ drop (2 * (i + 1)) words
       here =
           let a : 2 * i < length words = omega arith in
@@ -111,18 +113,18 @@ module _ (start spill₀ target words : List ℕ) (p : Limits) (stored : ℕ) wh
           let s : 2 * i + 1 ≡ suc (2 * i) = omega arith in
           rw (drop-cons words (2 * i) 0 a, n) (rw s (ap (λ (l : List ℕ). getD words (2 * i) 0 ∷ l) (drop-cons words (suc (2 * i)) 0 (rw s at more))))
 
-      turn : ifZero code (replayFrom (jobLent e) (fifo raw′ after) (take filled′ spill′) (suc i) (min 18446744073709551615 (gas + g)) (drop (2 * (i + 1)) words)) (verdict code i gas (take filled′ spill′))
+      turn : ifZero (r .code) (replayFrom (jobLent e) (fifo raw′ (r .len)) (take (r .filled) spill′) (suc i) (min 18446744073709551615 (gas + r .gas)) (drop (2 * (i + 1)) words)) (verdict (r .code) i gas (take (r .filled) spill′))
           ≡ replayFrom (jobLent e) start (take stored spill₀) 0 0 words
       turn = sym (rw read at (one .turned .leads (jobLent e) (fits (length spill) (now .slots)) i gas (drop (2 * (i + 1)) words))) ∙ rw (← here) (now .rest)
 
-      drops : drop filled′ spill′ ≡ drop filled′ spill₀
+      drops : drop (r .filled) spill′ ≡ drop (r .filled) spill₀
       drops =
-          let q : filled + (filled′ - filled) ≡ filled′ = omega (arith, one .grows) in
-          one .beyond ∙ rw q at (sym (drop-drop (filled′ - filled) filled spill) ∙ ap (drop (filled′ - filled)) (now .beyond) ∙ drop-drop (filled′ - filled) filled spill₀)
+          let more′ = r .filled - filled in
+          let q : filled + more′ ≡ r .filled = omega (arith, one .grows) in
+          one .beyond ∙ rw q at (sym (drop-drop more′ filled spill) ∙ ap (drop more′) (now .beyond) ∙ drop-drop more′ filled spill₀)
 
-      pub turn-again : (g′ : ℕ) → code ≡ 0 → g′ ≡ min 18446744073709551615 (gas + g)
-          → Replaying e raw′ spill′ after filled′ g′ (i + 1)
-      turn-again g′ z q =
+      pub turn-again : (g : ℕ) → r .code ≡ 0 → g ≡ min 18446744073709551615 (gas + r .gas) → Replaying e raw′ spill′ (r .len) (r .filled) g (i + 1)
+      turn-again g z q =
           record {
             slots = one .slots ∙ now .slots;
             inside = omega (arith, one .slots, one .inside);
@@ -130,11 +132,11 @@ module _ (start spill₀ target words : List ℕ) (p : Limits) (stored : ℕ) wh
             rest = rw (q, add-one i) (rw (z, add-one i) at turn);
           }
 
-      pub turn-refused : (code ≡ 0 → ⊥) → record { code = code; index = i; gas = gas; filled = filled′; spill = spill′ } ≡ replayDue e
+      pub turn-refused : (v : Answer) → v ≡ answered (r .code) i gas (r .filled) → (r .code ≡ 0 → ⊥) → seen v spill′ ≡ replayDue e
       unfolding replayDue
-      turn-refused ne =
-          seen-is e code i gas filled′ spill′ (omega (arith, one .slots, one .inside)) drops
-          ∙ ap (λ (v : Verdict). seenVerdict v e) (sym (if-not-zero code _ (verdict code i gas (take filled′ spill′)) ne) ∙ turn)
+      turn-refused v u ne =
+          seen-is e v (r .code) i gas (r .filled) spill′ u (omega (arith, one .slots, one .inside)) drops
+          ∙ ap (λ (v : Verdict). seenVerdict v e) (sym (if-not-zero (r .code) _ (verdict (r .code) i gas (take (r .filled) spill′)) ne) ∙ turn)
 
     -- no record is left
     module _ (out : length words ≤ 2 * i) where
@@ -142,13 +144,13 @@ module _ (start spill₀ target words : List ℕ) (p : Limits) (stored : ℕ) wh
       unfolding replayFrom
       ended b q = rw (drop-of-length-le words out, q) at (now .rest)
 
-      pub turn-target : (b : Bool) → b ≡ sameList (fifo raw len) target → b ≡ true → record { code = 0; index = i; gas = gas; filled = filled; spill = spill } ≡ replayDue e
+      pub turn-target : (v : Answer) (b : Bool) → v ≡ answered 0 i gas filled → b ≡ sameList (fifo raw len) target → b ≡ true → seen v spill ≡ replayDue e
       unfolding replayDue
-      turn-target b q t = seen-is e 0 i gas filled spill (now .inside) (now .beyond) ∙ ap (λ (v : Verdict). seenVerdict v e) (ended true (sym q ∙ t))
+      turn-target v b u q t = seen-is e v 0 i gas filled spill u (now .inside) (now .beyond) ∙ ap (λ (v : Verdict). seenVerdict v e) (ended true (sym q ∙ t))
 
-      pub turn-unlike : (b : Bool) → b ≡ sameList (fifo raw len) target → b ≡ false → record { code = 41; index = i; gas = gas; filled = filled; spill = spill } ≡ replayDue e
+      pub turn-unlike : (v : Answer) (b : Bool) → v ≡ answered 41 i gas filled → b ≡ sameList (fifo raw len) target → b ≡ false → seen v spill ≡ replayDue e
       unfolding replayDue
-      turn-unlike b q t = seen-is e 41 i gas filled spill (now .inside) (now .beyond) ∙ ap (λ (v : Verdict). seenVerdict v e) (ended false (sym q ∙ t))
+      turn-unlike v b u q t = seen-is e v 41 i gas filled spill u (now .inside) (now .beyond) ∙ ap (λ (v : Verdict). seenVerdict v e) (ended false (sym q ∙ t))
 
 -- nothing has been replayed
 pub turn-first : (spill target words raw : List ℕ) (len first S D filled : ℕ) → filled ≤ length spill
@@ -162,11 +164,11 @@ module _ (start spill target words : List ℕ) (filled first S D : ℕ) where
   lent = lentTo start spill filled first target S D words
 
   module _ (code : ℕ) (is : code ≡ jobCode S (length start) (length target) filled (length spill) first) where
-    pub check-job : (code ≡ 0 → ⊥) → record { code = code; index = 0; gas = 0; filled = 0; spill = spill } ≡ checkDue lent
+    pub check-job : (v : Answer) → v ≡ answered code 0 0 0 → (code ≡ 0 → ⊥) → seen v spill ≡ checkDue lent
     unfolding checkDue replay
-    check-job ne = go code refl
+    check-job v u ne = rw u (go code refl)
       where
-        go : (r : ℕ) → r ≡ code → record { code = code; index = 0; gas = 0; filled = 0; spill = spill } ≡ checkDue lent
+        go : (r : ℕ) → r ≡ code → seen (answered code 0 0 0) spill ≡ checkDue lent
         go zero q = absurd (ne (sym q))
         go (suc r) q = rw (← is, ← q)
 
@@ -174,9 +176,9 @@ module _ (start spill target words : List ℕ) (filled first S D : ℕ) where
       bounds : (length start ≤ 1024) × (filled ≤ length spill) × (first + length spill ≤ 4294967295)
       bounds = job-bounds S (length start) (length target) filled (length spill) first (sym is ∙ z)
 
-      pub check-odd : (length words % 2 ≡ 0 → ⊥) → record { code = 30; index = 0; gas = 0; filled = filled; spill = spill } ≡ checkDue lent
+      pub check-odd : (v : Answer) → v ≡ answered 30 0 0 filled → (length words % 2 ≡ 0 → ⊥) → seen v spill ≡ checkDue lent
       unfolding checkDue replay
-      check-odd ne = rw (← is, z, ne-eqb (length words % 2) 0 ne) (seen-is lent 30 0 0 filled spill (bounds .1) refl)
+      check-odd v u ne = rw (← is, z, ne-eqb (length words % 2) 0 ne) (seen-is lent v 30 0 0 filled spill u (bounds .1) refl)
 
       -- the start as it is laid into the array
       pub check-run : (made len : ℕ) (raw : List ℕ) (v : SeenVerdict) → length words % 2 ≡ 0 → Leaves (madeFrom start) made len blank raw

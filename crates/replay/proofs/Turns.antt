@@ -21,7 +21,12 @@ use Rattle.scope.specs.Stack.{wordOf, fifo, kept, Left, Popped, pushOn, duplica
 use Rattle.stack.specs.Promises.{Leaves, Takes}
 use Rattle.stack.proofs.Laws.{length-fifo}
 use Rattle.replay.specs.declared.Limits.{Limits}
-use Rattle.replay.specs.Promises.{Fits, Turned, OnStack, OnSlots}
+use Rattle.replay.specs.declared.Turn.{Turn}
+use Rattle.replay.specs.Promises.{refusal, Fits, Turned, OnStack, OnSlots}
+
+-- what a record that is not refused comes to
+abbrev done : ℕ → ℕ → ℕ → Turn
+done len filled gas = record { code = 0; len = len; filled = filled; gas = gas }
 
 -- ---- one step of `replayFrom`
 
@@ -36,15 +41,20 @@ module _ (p : Limits) (slots k a : ℕ) (l m : List ℕ) where
   unfolding replayFrom
   plays o l′ m′ gas e q f s t = record { leads = λ j fits i g ws. rw (e, f j fits, s j fits, t, q) }
 
--- a record that leaves the slots as they are, and one that is refused
-module _ (p : Limits) (k a : ℕ) (l : List ℕ) (filled : ℕ) where
-  stays : (r : ℕ) → ((j : Job) (m : ℕ) → Fits p (j .slots) j → fault j l m (decoded k a) ≡ suc r) → OnStack p k a l filled (suc r) filled 0 l
-  stays r f = record { filled = refl; turned = λ slots m. refuses p slots k a l m r l (λ j fits. f j (length m) (record { swaps = fits .swaps; dups = fits .dups; first = fits .first; slots = refl })) }
+-- a record that is refused, whatever the slots
+stays : (p : Limits) (k a : ℕ) (raw : List ℕ) (len filled code : ℕ) (r : Turn) → r ≡ refusal (suc code) len filled
+    → ((j : Job) (m : ℕ) → Fits p (j .slots) j → fault j (fifo raw len) m (decoded k a) ≡ suc code) → OnStack p k a (fifo raw len) filled r raw
+stays p k a raw len filled code r q f =
+    rw q
+    (record {
+      filled = refl;
+      turned = λ slots m. refuses p slots k a (fifo raw len) m code (fifo raw len) (λ j fits. f j (length m) (record { swaps = fits .swaps; dups = fits .dups; first = fits .first; slots = refl }));
+    })
 
 -- an operation on the stack alone changes no slot
-spared : (p : Limits) (k a : ℕ) (l spill : List ℕ) (filled code after gas : ℕ) (l′ : List ℕ) → filled ≤ length spill
-    → OnStack p k a l filled code after gas l′ → OnSlots p k a l spill filled code after gas l′ spill
-spared p k a l spill filled code after gas l′ h t =
+spared : (p : Limits) (k a : ℕ) (l spill : List ℕ) (filled : ℕ) (r : Turn) (raw′ : List ℕ) → filled ≤ length spill
+    → OnStack p k a l filled r raw′ → OnSlots p k a l spill filled r raw′ spill
+spared p k a l spill filled r raw′ h t =
     record { slots = refl; grows = omega (arith, t .filled); inside = rw (t .filled) h; beyond = refl; turned = rw (t .filled) (t .turned (length spill) (take filled spill)) }
 
 -- ---- taking the top off
@@ -90,64 +100,64 @@ module _ (p : Limits) (raw : List ℕ) (len n a filled : ℕ) (is : n ≡ min (l
   high : length (fifo raw len) ≡ n
   high = length-fifo raw len ∙ sym is
 
-  pub swap-none : a ≡ 0 → OnStack p 1 a (fifo raw len) filled 32 filled 0 (fifo raw len)
-  swap-none z = stays p 1 a (fifo raw len) filled 31 (λ j m fits. rw (eq-eqb a 0 z))
+  pub swap-none : (r : Turn) → r ≡ refusal 32 len filled → a ≡ 0 → OnStack p 1 a (fifo raw len) filled r raw
+  swap-none r u z = stays p 1 a raw len filled 31 r u (λ j m fits. rw (eq-eqb a 0 z))
 
-  pub swap-far : (a ≡ 0 → ⊥) → p .«max_swap_depth» < a → OnStack p 1 a (fifo raw len) filled 32 filled 0 (fifo raw len)
-  swap-far ne h = stays p 1 a (fifo raw len) filled 31 (λ j m fits. rw (ne-eqb a 0 ne, fits .swaps, lt-ltb (p .«max_swap_depth») a h))
+  pub swap-far : (r : Turn) → r ≡ refusal 32 len filled → (a ≡ 0 → ⊥) → p .«max_swap_depth» < a → OnStack p 1 a (fifo raw len) filled r raw
+  swap-far r u ne h = stays p 1 a raw len filled 31 r u (λ j m fits. rw (ne-eqb a 0 ne, fits .swaps, lt-ltb (p .«max_swap_depth») a h))
 
-  pub swap-below : (a ≡ 0 → ⊥) → a ≤ p .«max_swap_depth» → n ≤ a → OnStack p 1 a (fifo raw len) filled 33 filled 0 (fifo raw len)
-  swap-below ne h d =
-      stays p 1 a (fifo raw len) filled 32
+  pub swap-below : (r : Turn) → r ≡ refusal 33 len filled → (a ≡ 0 → ⊥) → a ≤ p .«max_swap_depth» → n ≤ a → OnStack p 1 a (fifo raw len) filled r raw
+  swap-below r u ne h d =
+      stays p 1 a raw len filled 32 r u
       (λ j m fits. rw (ne-eqb a 0 ne, fits .swaps, le-ltb (p .«max_swap_depth») a h, high, le-leb n a d))
 
   pub swap-done : (code after gas : ℕ) (raw′ : List ℕ) → (a ≡ 0 → ⊥) → a ≤ p .«max_swap_depth» → a < n → gas ≡ 3
-      → Leaves (exchangeOn 0 a (kept raw len)) code after raw raw′ → OnStack p 1 a (fifo raw len) filled 0 filled gas (fifo raw′ after)
+      → Leaves (exchangeOn 0 a (kept raw len)) code after raw raw′ → OnStack p 1 a (fifo raw len) filled (done after filled gas) raw′
   unfolding exchangeOn
   swap-done code after gas raw′ ne h d q e =
       let n′ = high in
-      let done : fifo raw′ after ≡ swapped a (fifo raw len) =
+      let left : fifo raw′ after ≡ swapped a (fifo raw len) =
       ap (λ (x : Left). x .stack .values)
       (rw (ne-eqb (length (fifo raw len)) 0 (λ z. omega arith), lt-leb (length (fifo raw len)) 0 (omega arith), lt-leb (length (fifo raw len)) a (omega arith)) at (e .answer)) in
       record {
         filled = refl;
         turned = λ slots m. plays p slots 1 a (fifo raw len) m (Swap a) (fifo raw′ after) m gas refl q
-            (λ j fits. rw (ne-eqb a 0 ne, fits .swaps, le-ltb (p .«max_swap_depth») a h, high, lt-leb n a d)) (λ j fits. done) refl;
+            (λ j fits. rw (ne-eqb a 0 ne, fits .swaps, le-ltb (p .«max_swap_depth») a h, high, lt-leb n a d)) (λ j fits. left) refl;
       }
 
-  pub dup-far : p .«max_dup_depth» < a → OnStack p 2 a (fifo raw len) filled 34 filled 0 (fifo raw len)
-  dup-far h = stays p 2 a (fifo raw len) filled 33 (λ j m fits. rw (fits .dups, lt-ltb (p .«max_dup_depth») a h))
+  pub dup-far : (r : Turn) → r ≡ refusal 34 len filled → p .«max_dup_depth» < a → OnStack p 2 a (fifo raw len) filled r raw
+  dup-far r u h = stays p 2 a raw len filled 33 r u (λ j m fits. rw (fits .dups, lt-ltb (p .«max_dup_depth») a h))
 
-  pub dup-below : a ≤ p .«max_dup_depth» → n ≤ a → OnStack p 2 a (fifo raw len) filled 35 filled 0 (fifo raw len)
-  dup-below h d = stays p 2 a (fifo raw len) filled 34 (λ j m fits. rw (fits .dups, le-ltb (p .«max_dup_depth») a h, high, le-leb n a d))
+  pub dup-below : (r : Turn) → r ≡ refusal 35 len filled → a ≤ p .«max_dup_depth» → n ≤ a → OnStack p 2 a (fifo raw len) filled r raw
+  dup-below r u h d = stays p 2 a raw len filled 34 r u (λ j m fits. rw (fits .dups, le-ltb (p .«max_dup_depth») a h, high, le-leb n a d))
 
-  pub dup-high : a ≤ p .«max_dup_depth» → a < n → 1024 ≤ n → OnStack p 2 a (fifo raw len) filled 36 filled 0 (fifo raw len)
-  dup-high h d full =
-      stays p 2 a (fifo raw len) filled 35
+  pub dup-high : (r : Turn) → r ≡ refusal 36 len filled → a ≤ p .«max_dup_depth» → a < n → 1024 ≤ n → OnStack p 2 a (fifo raw len) filled r raw
+  dup-high r u h d full =
+      stays p 2 a raw len filled 35 r u
       (λ j m fits. rw (fits .dups, le-ltb (p .«max_dup_depth») a h, high, lt-leb n a d, le-leb 1024 n full))
 
   pub dup-done : (code after gas : ℕ) (raw′ : List ℕ) → a ≤ p .«max_dup_depth» → a < n → n < 1024 → gas ≡ 3
-      → Leaves (duplicateOn a (kept raw len)) code after raw raw′ → OnStack p 2 a (fifo raw len) filled 0 filled gas (fifo raw′ after)
+      → Leaves (duplicateOn a (kept raw len)) code after raw raw′ → OnStack p 2 a (fifo raw len) filled (done after filled gas) raw′
   unfolding duplicateOn pushOn
   dup-done code after gas raw′ h d room q e =
       let n′ = high in
-      let done : fifo raw′ after ≡ getD (fifo raw len) a 0 ∷ fifo raw len =
+      let left : fifo raw′ after ≡ getD (fifo raw len) a 0 ∷ fifo raw len =
       ap (λ (x : Left). x .stack .values)
       (rw (ne-eqb (length (fifo raw len)) 0 (λ z. omega arith), lt-leb (length (fifo raw len)) a (omega arith), lt-leb 1024 (length (fifo raw len)) (omega arith)) at (e .answer)) in
       record {
         filled = refl;
         turned = λ slots m. plays p slots 2 a (fifo raw len) m (Dup a) (fifo raw′ after) m gas refl q
-            (λ j fits. rw (fits .dups, le-ltb (p .«max_dup_depth») a h, high, lt-leb n a d, lt-leb 1024 n room)) (λ j fits. done) refl;
+            (λ j fits. rw (fits .dups, le-ltb (p .«max_dup_depth») a h, high, lt-leb n a d, lt-leb 1024 n room)) (λ j fits. left) refl;
       }
 
-  pub pop-argument : (a ≡ 0 → ⊥) → OnStack p 3 a (fifo raw len) filled 31 filled 0 (fifo raw len)
-  pop-argument ne = stays p 3 a (fifo raw len) filled 30 (λ j m fits. rw (ne-eqb a 0 ne))
+  pub pop-argument : (r : Turn) → r ≡ refusal 31 len filled → (a ≡ 0 → ⊥) → OnStack p 3 a (fifo raw len) filled r raw
+  pop-argument r u ne = stays p 3 a raw len filled 30 r u (λ j m fits. rw (ne-eqb a 0 ne))
 
-  pub pop-none : a ≡ 0 → n ≡ 0 → OnStack p 3 a (fifo raw len) filled 37 filled 0 (fifo raw len)
-  pop-none z e = stays p 3 a (fifo raw len) filled 36 (λ j m fits. rw (eq-eqb a 0 z, high, eq-eqb n 0 e))
+  pub pop-none : (r : Turn) → r ≡ refusal 37 len filled → a ≡ 0 → n ≡ 0 → OnStack p 3 a (fifo raw len) filled r raw
+  pop-none r u z e = stays p 3 a raw len filled 36 r u (λ j m fits. rw (eq-eqb a 0 z, high, eq-eqb n 0 e))
 
   pub pop-done : (value : Word) (after gas : ℕ) → a ≡ 0 → (n ≡ 0 → ⊥) → gas ≡ 3
-      → Takes (popOn (kept raw len)) value after raw raw → OnStack p 3 a (fifo raw len) filled 0 filled gas (fifo raw after)
+      → Takes (popOn (kept raw len)) value after raw raw → OnStack p 3 a (fifo raw len) filled (done after filled gas) raw
   pop-done value after gas z ne q e =
       record {
         filled = refl;
@@ -165,26 +175,28 @@ module _ (p : Limits) (raw spill : List ℕ) (len a filled : ℕ) (fits-in : fil
   count = length-take-le filled spill fits-in
 
   -- a refusal leaves everything
-  keeps : (k r : ℕ) → ((j : Job) → Fits p (length spill) j → fault j (fifo raw len) filled (decoded k a) ≡ suc r)
-      → OnSlots p k a (fifo raw len) spill filled (suc r) filled 0 (fifo raw len) spill
-  keeps k r f = record { slots = refl; grows = omega arith; inside = fits-in; beyond = refl; turned = refuses p (length spill) k a (fifo raw len) m r (fifo raw len) (λ j fits. rw count (f j fits)) }
+  keeps : (k code : ℕ) (r : Turn) → r ≡ refusal (suc code) len filled → ((j : Job) → Fits p (length spill) j → fault j (fifo raw len) filled (decoded k a) ≡ suc code)
+      → OnSlots p k a (fifo raw len) spill filled r raw spill
+  keeps k code r q f =
+      rw q
+      (record { slots = refl; grows = omega arith; inside = fits-in; beyond = refl; turned = refuses p (length spill) k a (fifo raw len) m code (fifo raw len) (λ j fits. rw count (f j fits)) })
 
   module _ (after : ℕ) (value : Word) (e : Takes (popOn (kept raw len)) value after raw raw) where
-    pub store-none : value ≡ Nothing → OnSlots p 4 a (fifo raw len) spill filled 37 filled 0 (fifo raw len) spill
-    store-none q = keeps 4 36 (λ j fits. rw (eq-eqb (length (fifo raw len)) 0 (none-there raw len after value e q)))
+    pub store-none : (r : Turn) → r ≡ refusal 37 len filled → value ≡ Nothing → OnSlots p 4 a (fifo raw len) spill filled r raw spill
+    store-none r w q = keeps 4 36 r w (λ j fits. rw (eq-eqb (length (fifo raw len)) 0 (none-there raw len after value e q)))
 
     module _ (v : ℕ) (q : value ≡ Is v) where
       not-empty : eqb (length (fifo raw len)) 0 ≡ false
       not-empty = ne-eqb (length (fifo raw len)) 0 (one-there raw len after value e v q .0)
 
-      pub store-other : (a ≡ p .first + filled → ⊥) → OnSlots p 4 a (fifo raw len) spill filled 38 filled 0 (fifo raw len) spill
-      store-other d = keeps 4 37 (λ j fits. rw (not-empty, fits .first, ne-eqb a (p .first + filled) d))
+      pub store-other : (r : Turn) → r ≡ refusal 38 len filled → (a ≡ p .first + filled → ⊥) → OnSlots p 4 a (fifo raw len) spill filled r raw spill
+      store-other r w d = keeps 4 37 r w (λ j fits. rw (not-empty, fits .first, ne-eqb a (p .first + filled) d))
 
-      pub store-full : a ≡ p .first + filled → length spill ≤ filled → OnSlots p 4 a (fifo raw len) spill filled 39 filled 0 (fifo raw len) spill
-      store-full d h = keeps 4 38 (λ j fits. rw (not-empty, fits .first, eq-eqb a (p .first + filled) d, fits .slots, le-leb (length spill) filled h))
+      pub store-full : (r : Turn) → r ≡ refusal 39 len filled → a ≡ p .first + filled → length spill ≤ filled → OnSlots p 4 a (fifo raw len) spill filled r raw spill
+      store-full r w d h = keeps 4 38 r w (λ j fits. rw (not-empty, fits .first, eq-eqb a (p .first + filled) d, fits .slots, le-leb (length spill) filled h))
 
       pub store-done : (gas : ℕ) → a ≡ p .first + filled → filled < length spill → gas ≡ 6
-          → OnSlots p 4 a (fifo raw len) spill filled 0 (filled + 1) gas (fifo raw after) (set spill filled v)
+          → OnSlots p 4 a (fifo raw len) spill filled (done after (filled + 1) gas) raw (set spill filled v)
       store-done gas d h u =
           let stored : take (filled + 1) (set spill filled v) ≡ m ++ (getD (fifo raw len) 0 0 ∷ []) =
           rw (add-one filled, take-suc-set spill filled v h, one-there raw len after value e v q .1) in
@@ -202,24 +214,24 @@ module _ (p : Limits) (raw spill : List ℕ) (len a filled : ℕ) (fits-in : fil
     tall : length (fifo raw len) ≡ n
     tall = length-fifo raw len ∙ sym is
 
-    pub load-high : 1024 ≤ n → OnSlots p 5 a (fifo raw len) spill filled 36 filled 0 (fifo raw len) spill
-    load-high h = keeps 5 35 (λ j fits. rw (tall, le-leb 1024 n h))
+    pub load-high : (r : Turn) → r ≡ refusal 36 len filled → 1024 ≤ n → OnSlots p 5 a (fifo raw len) spill filled r raw spill
+    load-high r w h = keeps 5 35 r w (λ j fits. rw (tall, le-leb 1024 n h))
 
-    pub load-before : n < 1024 → a < p .first → OnSlots p 5 a (fifo raw len) spill filled 40 filled 0 (fifo raw len) spill
-    load-before h d = keeps 5 39 (λ j fits. rw (tall, lt-leb 1024 n h, fits .first, lt-ltb a (p .first) d))
+    pub load-before : (r : Turn) → r ≡ refusal 40 len filled → n < 1024 → a < p .first → OnSlots p 5 a (fifo raw len) spill filled r raw spill
+    load-before r w h d = keeps 5 39 r w (λ j fits. rw (tall, lt-leb 1024 n h, fits .first, lt-ltb a (p .first) d))
 
-    pub load-unfilled : n < 1024 → p .first ≤ a → filled ≤ a - p .first → OnSlots p 5 a (fifo raw len) spill filled 40 filled 0 (fifo raw len) spill
-    load-unfilled h d u =
-        keeps 5 39 (λ j fits. rw (tall, lt-leb 1024 n h, fits .first, le-ltb a (p .first) d, le-leb (p .first + filled) a (omega arith)))
+    pub load-unfilled : (r : Turn) → r ≡ refusal 40 len filled → n < 1024 → p .first ≤ a → filled ≤ a - p .first → OnSlots p 5 a (fifo raw len) spill filled r raw spill
+    load-unfilled r w h d u =
+        keeps 5 39 r w (λ j fits. rw (tall, lt-leb 1024 n h, fits .first, le-ltb a (p .first) d, le-leb (p .first + filled) a (omega arith)))
 
     pub load-done : (code after gas : ℕ) (raw′ : List ℕ) → n < 1024 → p .first ≤ a → a - p .first < filled → gas ≡ 6
         → Leaves (pushOn (getD spill (a - p .first) 0) (kept raw len)) code after raw raw′
-        → OnSlots p 5 a (fifo raw len) spill filled 0 filled gas (fifo raw′ after) spill
+        → OnSlots p 5 a (fifo raw len) spill filled (done after filled gas) raw′ spill
     unfolding pushOn
     load-done code after gas raw′ h d u q e =
         let n′ = tall in
         let value : getD m (a - p .first) 0 ≡ getD spill (a - p .first) 0 = getD-take filled spill (a - p .first) 0 u in
-        let done : fifo raw′ after ≡ getD m (a - p .first) 0 ∷ fifo raw len =
+        let left : fifo raw′ after ≡ getD m (a - p .first) 0 ∷ fifo raw len =
         rw value (ap (λ (x : Left). x .stack .values) (rw (lt-leb 1024 (length (fifo raw len)) (omega arith)) at (e .answer))) in
         record {
           slots = refl;
@@ -228,20 +240,20 @@ module _ (p : Limits) (raw spill : List ℕ) (len a filled : ℕ) (fits-in : fil
           beyond = refl;
           turned = plays p (length spill) 5 a (fifo raw len) m (Load a) (fifo raw′ after) m gas refl q
               (λ j fits. rw (tall, lt-leb 1024 n h, fits .first, count, le-ltb a (p .first) d, lt-leb (p .first + filled) a (omega arith)))
-              (λ j fits. rw (fits .first) done) refl;
+              (λ j fits. rw (fits .first) left) refl;
         }
 
   -- no kind has the number
-  pub no-kind : (k : ℕ) → (k ≡ 1 → ⊥) → (k ≡ 2 → ⊥) → (k ≡ 3 → ⊥) → (k ≡ 4 → ⊥) → (k ≡ 5 → ⊥)
-      → OnSlots p k a (fifo raw len) spill filled 31 filled 0 (fifo raw len) spill
-  no-kind k h₁ h₂ h₃ h₄ h₅ = keeps k 30 (λ j fits. rw (ne-eqb k 1 h₁, ne-eqb k 2 h₂, ne-eqb k 3 h₃, ne-eqb k 4 h₄, ne-eqb k 5 h₅))
+  pub no-kind : (k : ℕ) (r : Turn) → r ≡ refusal 31 len filled → (k ≡ 1 → ⊥) → (k ≡ 2 → ⊥) → (k ≡ 3 → ⊥) → (k ≡ 4 → ⊥) → (k ≡ 5 → ⊥)
+      → OnSlots p k a (fifo raw len) spill filled r raw spill
+  no-kind k r w h₁ h₂ h₃ h₄ h₅ = keeps k 30 r w (λ j fits. rw (ne-eqb k 1 h₁, ne-eqb k 2 h₂, ne-eqb k 3 h₃, ne-eqb k 4 h₄, ne-eqb k 5 h₅))
 
 -- the answer of the kind's own function
-module _ (p : Limits) (k a : ℕ) (l spill : List ℕ) (filled code after gas : ℕ) (l′ : List ℕ) where
-  pub kind-on-stack : (k′ : ℕ) → k ≡ k′ → filled ≤ length spill → OnStack p k′ a l filled code after gas l′ → OnSlots p k a l spill filled code after gas l′ spill
-  kind-on-stack k′ e h t = rw e (spared p k′ a l spill filled code after gas l′ h t)
+module _ (p : Limits) (k a : ℕ) (l spill : List ℕ) (filled : ℕ) (r : Turn) (raw′ : List ℕ) where
+  pub kind-on-stack : (k′ : ℕ) → k ≡ k′ → filled ≤ length spill → OnStack p k′ a l filled r raw′ → OnSlots p k a l spill filled r raw′ spill
+  kind-on-stack k′ e h t = rw e (spared p k′ a l spill filled r raw′ h t)
 
-  pub kind-on-slots : (k′ : ℕ) (spill′ : List ℕ) → k ≡ k′ → OnSlots p k′ a l spill filled code after gas l′ spill′ → OnSlots p k a l spill filled code after gas l′ spill′
+  pub kind-on-slots : (k′ : ℕ) (spill′ : List ℕ) → k ≡ k′ → OnSlots p k′ a l spill filled r raw′ spill′ → OnSlots p k a l spill filled r raw′ spill′
   kind-on-slots k′ spill′ e t = rw e t
 
 pub ruleset by-kind = (kind-on-stack, kind-on-slots, no-kind)

@@ -7,9 +7,18 @@ use Rattle.scope.specs.Codes.{MAX-GAS}
 use Rattle.scope.specs.Words.{ifZero, stackOf}
 use Rattle.scope.specs.Rules.{Job}
 use Rattle.scope.specs.Replay.{verdict, replayFrom}
+use Rattle.scope.specs.Stack.{fifo}
 use Rattle.scope.specs.Once.{Lent, jobLent, SeenVerdict, seenVerdict}
 use Rattle.replay.specs.declared.Verdict.{Verdict}
 use Rattle.replay.specs.declared.Limits.{Limits}
+use Rattle.replay.specs.declared.Turn.{Turn}
+
+-- the checker's answer, and what a refused record comes to
+abbrev pub answered : ℕ → ℕ → ℕ → ℕ → Verdict
+answered code index gas filled = record { code = code; index = index; gas = gas; filled = filled }
+
+abbrev pub refusal : ℕ → ℕ → ℕ → Turn
+refusal code len filled = record { code = code; len = len; filled = filled; gas = 0 }
 
 -- what is seen of the checker's outcome: its answer, and every word of the spill buffer
 abbrev pub seen : Verdict → List ℕ → SeenVerdict
@@ -37,15 +46,15 @@ pub record Turned (p : Limits) (slots k a : ℕ) (l m : List ℕ) (code gas : �
   pub leads : (j : Job) → Fits p slots j → (i g : ℕ) (ws : List ℕ)
       → replayFrom j l m i g (k ∷ a ∷ ws) ≡ ifZero code (replayFrom j l′ m′ (suc i) (min MAX-GAS (g + gas)) ws) (verdict code i g m′)
 
--- a record that leaves the slots as they are
-pub record OnStack (p : Limits) (k a : ℕ) (l : List ℕ) (before code after gas : ℕ) (l′ : List ℕ) : Type 0 where
-  pub filled : after ≡ before
-  pub turned : (slots : ℕ) (m : List ℕ) → Turned p slots k a l m code gas l′ m
+-- a record that leaves the slots as they are; r is what the code makes of it, raw′ the array after it
+pub record OnStack (p : Limits) (k a : ℕ) (l : List ℕ) (before : ℕ) (r : Turn) (raw′ : List ℕ) : Type 0 where
+  pub filled : r .filled ≡ before
+  pub turned : (slots : ℕ) (m : List ℕ) → Turned p slots k a l m (r .code) (r .gas) (fifo raw′ (r .len)) m
 
 -- a record on a stack and a spill buffer: slots are only added, and the words beyond the filled ones stay
-pub record OnSlots (p : Limits) (k a : ℕ) (l spill : List ℕ) (filled code filled′ gas : ℕ) (l′ spill′ : List ℕ) : Type 0 where
+pub record OnSlots (p : Limits) (k a : ℕ) (l spill : List ℕ) (filled : ℕ) (r : Turn) (raw′ spill′ : List ℕ) : Type 0 where
   pub slots : length spill′ ≡ length spill
-  pub grows : filled ≤ filled′
-  pub inside : filled′ ≤ length spill
-  pub beyond : drop filled′ spill′ ≡ drop filled′ spill
-  pub turned : Turned p (length spill) k a l (take filled spill) code gas l′ (take filled′ spill′)
+  pub grows : filled ≤ r .filled
+  pub inside : r .filled ≤ length spill
+  pub beyond : drop (r .filled) spill′ ≡ drop (r .filled) spill
+  pub turned : Turned p (length spill) k a l (take filled spill) (r .code) (r .gas) (fifo raw′ (r .len)) (take (r .filled) spill′)

@@ -13,7 +13,7 @@ ghost use Rattle.scope.specs.Codes.{MAX-WORD, MAX-GAS};
 ghost use Rattle.scope.specs.Shuffle.{jobCode};
 ghost use Rattle.scope.specs.Stack.{fifo};
 ghost use Rattle.scope.specs.Once.{checkDue};
-ghost use Rattle.replay.specs.Promises.{lentTo, seen, OnStack, OnSlots, replayDue};
+ghost use Rattle.replay.specs.Promises.{lentTo, seen, refusal, answered, OnStack, OnSlots, replayDue};
 
 // The code, the index of the operation at fault (their count where there is none), the gas of those replayed, the slots filled.
 pub struct Verdict {
@@ -36,6 +36,29 @@ pub(crate) struct Turn {
     pub(crate) len: u16,
     pub(crate) filled: usize,
     pub(crate) gas: u64,
+}
+
+// A record that is refused leaves the stack and the slots, and has no gas.
+fn refused(code: u32, len: u16, filled: usize) -> Turn
+    ensures { λ r. ⌜ r ≡ refusal code len filled ⌝ }
+{
+    Turn {
+        code,
+        len,
+        filled,
+        gas: 0,
+    }
+}
+
+fn answer(code: u32, index: usize, gas: u64, filled: usize) -> Verdict
+    ensures { λ r. ⌜ r ≡ answered code index gas filled ⌝ }
+{
+    Verdict {
+        code,
+        index,
+        gas,
+        filled,
+    }
 }
 
 // Codes 1 to 5, in that order; 0 for none of them.
@@ -88,32 +111,17 @@ fn replay_swap(
     limits: Limits,
     argument: u32,
 ) -> Turn
-    ensures { λ r. ⌜ OnStack limits 1 argument (fifo (now (raw .entry)) len) filled (r .code) (r .filled) (r .gas) (fifo (now (raw .exit)) (r .len)) ⌝ }
+    ensures { λ r. ⌜ OnStack limits 1 argument (fifo (now (raw .entry)) len) filled r (now (raw .exit)) ⌝ }
 {
     let height = stack::height(raw, len);
     if argument == 0 {
-        return Turn {
-            code: 32,
-            len,
-            filled,
-            gas: 0,
-        };
+        return refused(32, len, filled);
     }
     if (limits.max_swap_depth as u32) < argument {
-        return Turn {
-            code: 32,
-            len,
-            filled,
-            gas: 0,
-        };
+        return refused(32, len, filled);
     }
     if height <= argument as usize {
-        return Turn {
-            code: 33,
-            len,
-            filled,
-            gas: 0,
-        };
+        return refused(33, len, filled);
     }
     let depth = argument as u8;
     let swapped = stack::exchange_in(raw, len, 0, depth as u16);
@@ -127,32 +135,17 @@ fn replay_swap(
 
 // Kind 2: 34, 35, 36, or a copy of the value at depth `argument` on top.
 fn replay_dup(raw: &mut [u32; 1024], len: u16, filled: usize, limits: Limits, argument: u32) -> Turn
-    ensures { λ r. ⌜ OnStack limits 2 argument (fifo (now (raw .entry)) len) filled (r .code) (r .filled) (r .gas) (fifo (now (raw .exit)) (r .len)) ⌝ }
+    ensures { λ r. ⌜ OnStack limits 2 argument (fifo (now (raw .entry)) len) filled r (now (raw .exit)) ⌝ }
 {
     let height = stack::height(raw, len);
     if (limits.max_dup_depth as u32) < argument {
-        return Turn {
-            code: 34,
-            len,
-            filled,
-            gas: 0,
-        };
+        return refused(34, len, filled);
     }
     if height <= argument as usize {
-        return Turn {
-            code: 35,
-            len,
-            filled,
-            gas: 0,
-        };
+        return refused(35, len, filled);
     }
     if 1024 <= height {
-        return Turn {
-            code: 36,
-            len,
-            filled,
-            gas: 0,
-        };
+        return refused(36, len, filled);
     }
     let depth = argument as u8;
     let higher = stack::duplicate_in(raw, len, depth as u16);
@@ -166,24 +159,14 @@ fn replay_dup(raw: &mut [u32; 1024], len: u16, filled: usize, limits: Limits, ar
 
 // Kind 3: 31 where there is an argument, 37, or the top dropped.
 fn replay_pop(raw: &[u32; 1024], len: u16, filled: usize, limits: Limits, argument: u32) -> Turn
-    ensures { λ r. ⌜ OnStack limits 3 argument (fifo (now (raw .entry)) len) filled (r .code) (r .filled) (r .gas) (fifo (now (raw .entry)) (r .len)) ⌝ }
+    ensures { λ r. ⌜ OnStack limits 3 argument (fifo (now (raw .entry)) len) filled r (now (raw .entry)) ⌝ }
 {
     let height = stack::height(raw, len);
     if argument != 0 {
-        return Turn {
-            code: 31,
-            len,
-            filled,
-            gas: 0,
-        };
+        return refused(31, len, filled);
     }
     if height == 0 {
-        return Turn {
-            code: 37,
-            len,
-            filled,
-            gas: 0,
-        };
+        return refused(37, len, filled);
     }
     let lower = stack::pop_in(raw, len);
     Turn {
@@ -204,33 +187,18 @@ fn replay_store(
     argument: u32,
 ) -> Turn
     requires { ⌜ (filled ≤ length (now spill)) × (limits .first + length (now spill) ≤ MAX-WORD) ⌝ }
-    ensures { λ r. ⌜ OnSlots limits 4 argument (fifo (now (raw .entry)) len) (now (spill .entry)) filled (r .code) (r .filled) (r .gas) (fifo (now (raw .entry)) (r .len)) (now (spill .exit)) ⌝ }
+    ensures { λ r. ⌜ OnSlots limits 4 argument (fifo (now (raw .entry)) len) (now (spill .entry)) filled r (now (raw .entry)) (now (spill .exit)) ⌝ }
 {
     let taken = stack::pop_in(raw, len);
     let value = taken.value;
     match value {
-        Word::Nothing => Turn {
-            code: 37,
-            len,
-            filled,
-            gas: 0,
-        },
+        Word::Nothing => refused(37, len, filled),
         Word::Is(top) => {
             if argument as usize != limits.first as usize + filled {
-                return Turn {
-                    code: 38,
-                    len,
-                    filled,
-                    gas: 0,
-                };
+                return refused(38, len, filled);
             }
             if spill.len() <= filled {
-                return Turn {
-                    code: 39,
-                    len,
-                    filled,
-                    gas: 0,
-                };
+                return refused(39, len, filled);
             }
             spill[filled] = top;
             Turn {
@@ -253,33 +221,18 @@ fn replay_load(
     argument: u32,
 ) -> Turn
     requires { ⌜ (filled ≤ length (now spill)) × (limits .first + length (now spill) ≤ MAX-WORD) ⌝ }
-    ensures { λ r. ⌜ OnSlots limits 5 argument (fifo (now (raw .entry)) len) (now (spill .entry)) filled (r .code) (r .filled) (r .gas) (fifo (now (raw .exit)) (r .len)) (now (spill .entry)) ⌝ }
+    ensures { λ r. ⌜ OnSlots limits 5 argument (fifo (now (raw .entry)) len) (now (spill .entry)) filled r (now (raw .exit)) (now (spill .entry)) ⌝ }
 {
     let height = stack::height(raw, len);
     if 1024 <= height {
-        return Turn {
-            code: 36,
-            len,
-            filled,
-            gas: 0,
-        };
+        return refused(36, len, filled);
     }
     if argument < limits.first {
-        return Turn {
-            code: 40,
-            len,
-            filled,
-            gas: 0,
-        };
+        return refused(40, len, filled);
     }
     let slot = (argument - limits.first) as usize;
     if filled <= slot {
-        return Turn {
-            code: 40,
-            len,
-            filled,
-            gas: 0,
-        };
+        return refused(40, len, filled);
     }
     let higher = stack::push_in(raw, len, spill[slot]);
     Turn {
@@ -301,7 +254,7 @@ fn replay_one(
     argument: u32,
 ) -> Turn
     requires { ⌜ (filled ≤ length (now spill)) × (limits .first + length (now spill) ≤ MAX-WORD) ⌝ }
-    ensures { λ r. ⌜ OnSlots limits kind argument (fifo (now (raw .entry)) len) (now (spill .entry)) filled (r .code) (r .filled) (r .gas) (fifo (now (raw .exit)) (r .len)) (now (spill .exit)) ⌝ }
+    ensures { λ r. ⌜ OnSlots limits kind argument (fifo (now (raw .entry)) len) (now (spill .entry)) filled r (now (raw .exit)) (now (spill .exit)) ⌝ }
 {
     if kind == 1 {
         return replay_swap(raw, len, filled, limits, argument);
@@ -318,12 +271,7 @@ fn replay_one(
     if kind == 5 {
         return replay_load(raw, len, spill, filled, limits, argument);
     }
-    Turn {
-        code: 31,
-        len,
-        filled,
-        gas: 0,
-    }
+    refused(31, len, filled)
 }
 
 // Whether the stack is the target.
@@ -357,30 +305,15 @@ fn replay(
         len = turn.len;
         filled = turn.filled;
         if turn.code != 0 {
-            return Verdict {
-                code: turn.code,
-                index,
-                gas,
-                filled,
-            };
+            return answer(turn.code, index, gas, filled);
         }
         gas = more_gas(gas, turn.gas);
         index += 1;
     }
     if is_target(raw, len, target) {
-        return Verdict {
-            code: 0,
-            index,
-            gas,
-            filled,
-        };
+        return answer(0, index, gas, filled);
     }
-    Verdict {
-        code: 41,
-        index,
-        gas,
-        filled,
-    }
+    answer(41, index, gas, filled)
 }
 
 // The checker. Codes 1 to 5 with all else 0, then 30, then record by record.
@@ -405,35 +338,18 @@ pub fn check(
         first,
     );
     if code != 0 {
-        return Verdict {
-            code,
-            index: 0,
-            gas: 0,
-            filled: 0,
-        };
+        return answer(code, 0, 0, 0);
     }
     if ops.len() % 2 != 0 {
-        return Verdict {
-            code: 30,
-            index: 0,
-            gas: 0,
-            filled,
-        };
+        return answer(30, 0, 0, filled);
     }
     let made = EvmStack::from_fifo(start);
     let mut laid = made.stack;
     let len = laid.stack_len;
-    replay(
-        &mut laid.stack_raw,
-        len,
-        spill,
-        filled,
-        Limits {
-            max_swap_depth,
-            max_dup_depth,
-            first,
-        },
-        target,
-        ops,
-    )
+    let limits = Limits {
+        max_swap_depth,
+        max_dup_depth,
+        first,
+    };
+    replay(&mut laid.stack_raw, len, spill, filled, limits, target, ops)
 }

@@ -9,7 +9,9 @@ check-spec =
     tie.close
     (tie.spec
     (λ c κs. search needs)
+    (λ c κs. search needs)
     (λ c. search (check-job, needs))
+    (λ c κs. search needs)
     (λ c. search (check-odd, needs))
     (λ c κs. search needs)
     (λ c κs. (search (job-inside, needs), search (job-numbers, needs), search needs))

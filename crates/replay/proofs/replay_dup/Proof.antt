@@ -10,8 +10,11 @@ replay-dup-spec =
     (tie.spec
     (λ c κs. search needs)
     (λ c. search needs)
+    (λ c κs. search needs)
     (λ c. search (duplicating, needs))
+    (λ c κs. search needs)
     (λ c. search (duplicating, needs))
+    (λ c κs. search needs)
     (λ c. search (duplicating, needs))
     (λ c. search needs)
     (λ c. search needs)

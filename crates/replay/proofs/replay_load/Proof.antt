@@ -9,9 +9,12 @@ replay-load-spec =
     tie.close
     (tie.spec
     (λ c κs. search needs)
+    (λ c κs. search needs)
     (λ c. search (loading, needs))
+    (λ c κs. search needs)
     (λ c. search (loading, needs))
     (λ c. search needs)
+    (λ c κs. search needs)
     (λ c. search (loading, needs))
     (λ c. search needs)
     (λ c. search needs)

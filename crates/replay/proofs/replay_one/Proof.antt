@@ -20,4 +20,5 @@ replay-one-spec =
     (λ c κs. search needs)
     (λ c. search needs)
     (λ c. search (by-kind, needs))
+    (λ c κs. search needs)
     (λ c. search (by-kind, needs)))

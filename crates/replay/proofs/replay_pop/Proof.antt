@@ -9,7 +9,9 @@ replay-pop-spec =
     tie.close
     (tie.spec
     (λ c κs. search needs)
+    (λ c κs. search needs)
     (λ c. search (popping, needs))
+    (λ c κs. search needs)
     (λ c. search (popping, needs))
     (λ c κs. search needs)
     (λ c κs. search needs)

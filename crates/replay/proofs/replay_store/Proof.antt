@@ -10,10 +10,13 @@ replay-store-spec =
     (tie.spec
     (λ c κs. search needs)
     (λ c. search needs)
+    (λ c κs. search needs)
     (λ c. search needs)
     (λ c. search needs)
     (λ c. search needs)
+    (λ c κs. search needs)
     (λ c. search (storing, needs))
+    (λ c κs. search needs)
     (λ c. search (storing, needs))
     (λ c. search needs)
     (λ c. search needs)

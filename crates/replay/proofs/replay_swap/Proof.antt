@@ -9,9 +9,12 @@ replay-swap-spec =
     tie.close
     (tie.spec
     (λ c κs. search needs)
+    (λ c κs. search needs)
     (λ c. search (swapping, needs))
     (λ c. search needs)
+    (λ c κs. search needs)
     (λ c. search (swapping, needs))
+    (λ c κs. search needs)
     (λ c. search (swapping, needs))
     (λ c. search needs)
     (λ c. search needs)
