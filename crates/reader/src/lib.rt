@@ -44,7 +44,7 @@ pub fn next<'a>(r: Reader<'a>) -> Record
 
 // What a reader at a place of the words reads next: for callers that have a plain slice and a number.
 pub fn read_at(words: &[u32], at: usize) -> Record
-    ensures { λ r. ⌜ r ≡ recordAt (now (words .entry)) at ⌝ }
+    ensures { λ s. ⌜ s ≡ recordAt (now (words .entry)) at ⌝ }
 {
     next(Reader { words, at })
 }

@@ -144,17 +144,17 @@ fn replay_dup(raw: &mut [u32; 1024], len: u16, filled: usize, limits: Limits, ar
     if height <= argument as usize {
         return refused(35, len, filled);
     }
-    if 1024 <= height {
-        return refused(36, len, filled);
+    if height < 1024 {
+        let depth = argument as u8;
+        let higher = stack::duplicate_in(raw, len, depth as u16);
+        return Turn {
+            code: 0,
+            len: higher.len,
+            filled,
+            gas: gas_of(Op::Dup(depth)),
+        };
     }
-    let depth = argument as u8;
-    let higher = stack::duplicate_in(raw, len, depth as u16);
-    Turn {
-        code: 0,
-        len: higher.len,
-        filled,
-        gas: gas_of(Op::Dup(depth)),
-    }
+    refused(36, len, filled)
 }
 
 // Kind 3: 31 where there is an argument, 37, or the top dropped.
@@ -231,16 +231,16 @@ fn replay_load(
         return refused(40, len, filled);
     }
     let slot = (argument - limits.first) as usize;
-    if filled <= slot {
-        return refused(40, len, filled);
+    if slot < filled {
+        let higher = stack::push_in(raw, len, spill[slot]);
+        return Turn {
+            code: 0,
+            len: higher.len,
+            filled,
+            gas: gas_of(Op::Load(argument)),
+        };
     }
-    let higher = stack::push_in(raw, len, spill[slot]);
-    Turn {
-        code: 0,
-        len: higher.len,
-        filled,
-        gas: gas_of(Op::Load(argument)),
-    }
+    refused(40, len, filled)
 }
 
 // One record by its kind; 31 where there is no such kind.
