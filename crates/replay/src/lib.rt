@@ -16,6 +16,7 @@ ghost use Rattle.scope.specs.Once.{checkDue};
 ghost use Rattle.replay.specs.Promises.{lentTo, seen, refusal, answered, OnStack, OnSlots, replayDue};
 
 // The code, the index of the operation at fault (their count where there is none), the gas of those replayed, the slots filled.
+#[repr(C)]
 pub struct Verdict {
     pub code: u32,
     pub index: usize,

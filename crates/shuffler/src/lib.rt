@@ -17,26 +17,26 @@ mod tick;
 mod whole;
 
 // Where a run stands, beside the lent words: tracked's numbers, and how many bottom positions are completed.
-pub struct Progress {
+pub(crate) struct Progress {
     pub numbers: Numbers,
     pub complete: usize,
 }
 
 // A code, 0 for done, and where the run stands after it.
-pub struct Performed {
+pub(crate) struct Performed {
     pub code: u32,
     pub progress: Progress,
 }
 
 // How a loop ended: a code, 0 for done; the ticks passed; where the run stands.
-pub struct Looped {
+pub(crate) struct Looped {
     pub code: u32,
     pub ticks: u32,
     pub progress: Progress,
 }
 
 // How a run ended: its code, the ticks of each loop, where it stands.
-pub struct Ended {
+pub(crate) struct Ended {
     pub code: u32,
     pub shrink_ticks: u32,
     pub grow_ticks: u32,
@@ -44,6 +44,7 @@ pub struct Ended {
 }
 
 // What a shuffle answers: the code, the ticks of shrink and of grow, the operations that it wrote, the slots filled, the end stack.
+#[repr(C)]
 pub struct Answer {
     pub code: u32,
     pub shrink_ticks: u32,

@@ -10,6 +10,7 @@ ghost use Rattle.scope.specs.Words.{count, firstOf};
 ghost use Rattle.scope.specs.Stack.{fifo as keptValues, kept, pushOn, duplicateOn, exchangeOn, swapWithTopOn, popOn, madeFrom, isEmpty, atDepth, wordOf, depthOf};
 ghost use Rattle.stack.specs.Promises.{stackIn, valuesIn, blank, Fresh, Leaves, Takes};
 
+#[repr(C)]
 pub struct EvmStack {
     pub stack_raw: [u32; 1024],
     pub stack_len: u16,
