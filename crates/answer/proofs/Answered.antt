@@ -1,7 +1,7 @@
 -- For the words that a run wrote, the answer's lines are scope's for the run's result.
-use Prim.Native.Nat.{ℕ, _+_, _*_, _≤_}
+use Prim.Native.Nat.{ℕ, _*_, _≤_}
 use native.Mathlib.Omega.{arith}
-use mathlib.Core.Path.{_≡_, refl, ap}
+use mathlib.Core.Path.{_≡_, refl}
 use mathlib.Core.Option.{some}
 use mathlib.Core.List.{List, [], _∷_}
 use lib.ListN.{length, length-replicate}
@@ -15,7 +15,7 @@ use Rattle.scope.specs.JobFile.{answerLines}
 use Rattle.printing.specs.Promises.{placed}
 use Rattle.answer.specs.declared.Answer.{Answer}
 use Rattle.answer.specs.Promises.{said, opsIn, AllShallow, shown, asWritten, writes}
-use Rattle.answer.specs.Promises.AllShallow.{no-ops, one-op}
+use Rattle.answer.specs.Promises.AllShallow.{one-op}
 
 decodes : (o : Op) → decoded (kind o) (argument o) ≡ some o
 decodes (Swap k) = refl

@@ -6,15 +6,14 @@ use mathlib.Core.Path.{_≡_, refl, sym, ap, _∙_}
 use mathlib.Core.Bool.{Bool, true, false, true≢false, false≢true}
 use mathlib.Core.Option.{Option, none, some}
 use mathlib.Core.List.{List, [], _∷_, _++_, append-assoc}
-use lib.ListN.{length, take, drop, replicate, length-append, length-replicate}
-use lib.Seq.{sets, sets-eq, length-sets, take-at}
-use lib.Dec.{ltb}
+use lib.ListN.{length, take, drop, length-append, length-replicate}
+use lib.Seq.{sets-eq, take-at}
 use borrow.Author.Tests.{lt-ltb, le-ltb, lt-leb}
 use Rattle.scope.specs.declared.Op.{Op}
 use Rattle.scope.specs.declared.StackOps.{StackOps}
 use Rattle.scope.specs.Stack.{decimal, printed, stackOp}
 use Rattle.scope.specs.declared.Op.the-variants.{Swap, Dup, Pop, Store, Load}
-use Rattle.scope.specs.Machine.{gasOf, gasTotal, gasSum}
+use Rattle.scope.specs.Machine.{gasOf, gasTotal}
 use Rattle.scope.specs.JobFile.{opLines, answerLines}
 use Rattle.printing.specs.Promises.{Laid, placed}
 use Rattle.printing.proofs.Pasting.{then, placed-fits}
@@ -23,7 +22,7 @@ use Rattle.answer.specs.declared.Written.the-variants.{Wrote, NoRoom, No
 use Rattle.answer.specs.declared.Said.{Said}
 use Rattle.answer.specs.declared.Said.the-variants.{Is, Nothing}
 use Rattle.answer.specs.Promises.{saidOf, lineOf, opsIn, allSome, linesIn, gasIn, Labelled, runPart, headLine, shown, writes, writesOps, asWritten, writtenOf}
-use Rattle.answer.proofs.Words.{Told, told}
+use Rattle.answer.proofs.Words.{told}
 
 -- the line of what was said
 module _ (x : Option Op) (r : Said) (is : saidOf r ≡ x) where

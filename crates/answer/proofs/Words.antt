@@ -1,5 +1,5 @@
 -- Words two by two: a loop over them, and what they say as a whole.
-use Prim.Native.Nat.{ℕ, zero, suc, _+_, _-_, _*_, _≤_, _<_}
+use Prim.Native.Nat.{ℕ, suc, _+_, _-_, _*_, _≤_, _<_}
 use native.Mathlib.Omega.{arith}
 use mathlib.Core.Path.{_≡_, refl, sym, ap, _∙_}
 use mathlib.Core.Bool.{Bool, true, false, true≢false, false≢true}
@@ -7,17 +7,15 @@ use mathlib.Core.Option.{Option, none, some, Option·none-ne-some, Option·some-
 use mathlib.Core.List.{List, [], _∷_, _++_}
 use lib.ListN.{length, getD, drop, length-append, length-drop, drop-of-length-le}
 use lib.Seq.{sets, drop-cons}
-use lib.Dec.{eqb, leb}
 use borrow.Author.Tests.{le-leb, lt-leb, ne-eqb}
 use Rattle.scope.specs.declared.Op.{Op}
 use Rattle.scope.specs.declared.Op.the-variants.{Swap, Dup, Pop, Store, Load}
-use Rattle.scope.specs.Machine.{kind, argument, wordsOf, gasTotal}
-use Rattle.scope.specs.Replay.{decoded}
+use Rattle.scope.specs.Machine.{gasTotal}
 use Rattle.scope.specs.JobFile.{opLines}
 use Rattle.printing.specs.Promises.{Laid}
 use Rattle.printing.proofs.Pasting.{sets-append}
 use Rattle.answer.specs.declared.Said.the-variants.{Is, Nothing}
-use Rattle.answer.specs.Promises.{shallow, said, saidOf, oneMore, opsIn, isSome, allSome, lineOf, linesIn, gasSaid, gasIn}
+use Rattle.answer.specs.Promises.{said, saidOf, oneMore, opsIn, isSome, allSome, lineOf, linesIn, gasSaid, gasIn}
 
 -- ---- What two words say
 

@@ -5,13 +5,13 @@ use native.Mathlib.Nat.{zero-add}
 use native.Mathlib.Numerals.{add-one}
 use mathlib.Core.Path.{_≡_, refl, sym, ap, _∙_}
 use mathlib.Core.Bool.{Bool, true, false, _&&_, false≢true}
-use mathlib.Core.List.{List, [], _∷_, _++_}
-use lib.ListN.{length, set, drop}
+use mathlib.Core.List.{List}
+use lib.ListN.{length, set}
 use lib.Seq.{sets, sets-eq}
-use lib.Dec.{eqb, leb}
+use lib.Dec.{leb}
 use borrow.Author.Tests.{le-leb, lt-leb, leb-true, eq-eqb, ne-eqb, eqb-true}
 use Rattle.scope.specs.Machine.{over}
-use Rattle.scope.specs.JobFile.{wordAt, wordsAt, isJob, readJob, parsed, headBytes, spilledAt, targetAt, endAt}
+use Rattle.scope.specs.JobFile.{wordAt, wordsAt, isJob, readJob, parsed, spilledAt, targetAt, endAt}
 use Rattle.job.specs.Promises.{readInto, readOf}
 
 -- ---- Is it a job?

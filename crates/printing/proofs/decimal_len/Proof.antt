@@ -1,12 +1,10 @@
 -- What is counted, with the digits of what is left, is one more than the digits of the whole.
-use Prim.Native.Nat.{_+_, _%_, _/_, _≤_}
-use borrow.Author.Needs.{needs}
+use Prim.Native.Nat.{_+_, _≤_}
 use native.Mathlib.Omega.{arith}
 use mathlib.Core.Path.{_≡_, ap}
-use mathlib.Core.List.{_∷_, []}
 use lib.ListN.{length, length-append}
 use Rattle.scope.specs.Stack.{decimal}
-use Rattle.printing.proofs.Digits.{decimal-one, decimal-more, some-digit, twenty}
+use Rattle.printing.proofs.Digits.{decimal-one, decimal-more, twenty}
 use Rattle.printing.proofs.decimal_len.Statement.{statement}
 use Rattle.printing.proofs.decimal_len.Tie as tie
 

@@ -1,6 +1,5 @@
 -- Past the buffer's end there is no room; before it the difference says how much.
 use Prim.Native.Nat.{_+_}
-use borrow.Author.Needs.{needs}
 use borrow.Author.Tests.{le-leb, lt-leb}
 use native.Mathlib.Omega.{arith}
 use mathlib.Core.Path.{sym}

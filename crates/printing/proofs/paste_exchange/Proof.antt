@@ -1,9 +1,8 @@
 -- One text after the other.
 use borrow.Author.Needs.{needs}
 use native.Mathlib.Omega.{arith}
-use mathlib.Core.List.{[], _∷_, _++_}
+use mathlib.Core.List.{[], _∷_}
 use lib.ListN.{length-append}
-use denote.Ref.{now}
 use Rattle.scope.specs.Stack.{decimal}
 use Rattle.printing.proofs.Pasting.{room-left, then}
 use Rattle.printing.proofs.paste_exchange.Statement.{statement}
