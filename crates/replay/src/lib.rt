@@ -51,6 +51,7 @@ fn refused(code: u32, len: u16, filled: usize) -> Turn
     }
 }
 
+// The verdict of its four numbers.
 fn answer(code: u32, index: usize, gas: u64, filled: usize) -> Verdict
     ensures { λ r. ⌜ r ≡ answered code index gas filled ⌝ }
 {

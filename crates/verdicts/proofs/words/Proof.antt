@@ -1,22 +1,26 @@
--- The index stays within the buffer.
+-- The index stays within the words.
 use Prim.Native.Nat.{_-_, _≤_}
 use lib.ListN.{length}
 use borrow.Author.Needs.{needs}
-use Rattle.verdicts.proofs.slots.Statement.{statement}
-use Rattle.verdicts.proofs.slots.Tie as tie
+use Rattle.verdicts.proofs.words.Statement.{statement}
+use Rattle.verdicts.proofs.words.Tie as tie
 
 abbrev Inv-loop : tie.InvT-loop
-Inv-loop spill i₀ t3 i = i ≤ length spill
+Inv-loop t w i₀ t5 i = i ≤ length w
 
 abbrev μ-loop : tie.MeasureT-loop
-μ-loop spill i₀ t3 i = length spill - i
+μ-loop t w i₀ t5 i = length w - i
 
-pub slots-spec : {M : Type 1} → statement M
-slots-spec =
+pub words-spec : {M : Type 1} → statement M
+words-spec =
     tie.close
     (tie.spec
     Inv-loop
     μ-loop
+    (λ c κs. search needs)
+    (λ c κs. search needs)
+    (λ c. search needs)
+    (λ c κs. search needs)
     (λ c. search needs)
     (λ c. search needs)
     (λ c. search needs)
