@@ -11,7 +11,7 @@ use Rattle.rules.specs.declared.Choice.the-variants.{Store}
 use Rattle.rules.specs.Promises.{Chosen, applies, _then_, fromC, fromE, fromX, settling, getting, pushing}
 use Rattle.rules.proofs.Stages.{here, next, raise, lower}
 use Rattle.rules.proofs.Popping.{f-store}
-use Rattle.rules.proofs.Fetching.{grow-some, grow-none}
+use Rattle.rules.proofs.Fetching.{grow-some}
 
 -- ---- (e), (f)
 

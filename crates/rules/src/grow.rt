@@ -1,5 +1,4 @@
 // Grow: (x), (u), (v), (w), and the order in which a tick of grow tries the rules.
-ghost use mathlib.Core.Path.{_≡_};
 ghost use mathlib.Core.List.{List};
 ghost use Prim.Native.Nat.{ℕ};
 ghost use Rattle.scope.specs.Rules as R;

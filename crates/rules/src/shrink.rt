@@ -1,5 +1,4 @@
 // Shrink: (a) to (f), and the order in which a tick of shrink tries them.
-ghost use mathlib.Core.Path.{_≡_};
 ghost use mathlib.Core.List.{List};
 ghost use Prim.Native.Nat.{ℕ};
 ghost use Rattle.scope.specs.Rules as R;
