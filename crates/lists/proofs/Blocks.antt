@@ -3,13 +3,13 @@ use Prim.Native.Nat.{ℕ, _+_, _-_, _≤_, _<_}
 use native.Mathlib.Omega.{arith}
 use mathlib.Core.Path.{_≡_, refl, sym, ap, _∙_}
 use mathlib.Core.Bool.{Bool, true, false}
-use mathlib.Core.List.{List, _++_}
+use mathlib.Core.List.{List}
 use lib.ListN.{length, take, drop, take-append-drop, length-drop}
 use lib.Seq.{drop-drop, take-all}
 use lib.Dec.{ltb}
 use borrow.Author.Tests.{lt-ltb, le-ltb}
 use Rattle.scope.specs.Words.{_∈_, count}
-use Rattle.scope.proofs.Counts.{count-append, count-in, count-out, in-count, out-count}
+use Rattle.scope.proofs.Counts.{count-append, count-in, in-count, out-count}
 
 -- a value is in a list exactly where it is counted
 pub in-is-counted : (v : ℕ) (l : List ℕ) → (v ∈ l) ≡ ltb 0 (count v l)

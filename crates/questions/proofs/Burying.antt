@@ -1,11 +1,11 @@
 -- The push test, return by return.
 use Prim.Native.Nat.{ℕ, _+_, _-_, _<_, _≤_}
 use native.Mathlib.Omega.{arith}
-use mathlib.Core.Path.{_≡_, refl}
-use mathlib.Core.Bool.{Bool, true, false, _&&_}
+use mathlib.Core.Path.{_≡_}
+use mathlib.Core.Bool.{Bool, true, false, _&&_, and-false}
 use mathlib.Core.List.{List}
 use lib.ListN.{length}
-use lib.Dec.{leb, ltb}
+use lib.Dec.{ltb}
 use borrow.Author.Tests.{le-leb, lt-leb, le-ltb, lt-ltb}
 use Rattle.scope.specs.declared.Found.{Found}
 use Rattle.scope.specs.declared.Found.the-variants.{At, Nothing}
@@ -47,10 +47,6 @@ pub ruleset burying = (bury-wrong, bury-free, bury-here, bury-stored)
 -- the guard of a question at a position
 pub asked-inside : (p n t : ℕ) → p < n → p < t → (ltb p n && ltb p t) ≡ true
 asked-inside p n t a b = rw (lt-ltb p n a, lt-ltb p t b)
-
-and-false : (b : Bool) → (b && false) ≡ false
-and-false true = refl
-and-false false = refl
 
 pub asked-past : (p n t : ℕ) → t ≤ p → (ltb p n && ltb p t) ≡ false
 asked-past p n t a = rw (le-ltb p t a) (and-false (ltb p n))

@@ -1,4 +1,5 @@
 pub mod Answers
+pub mod Needing
 pub mod Above
 pub mod Burying
 pub mod Reaching

@@ -1,8 +1,8 @@
 -- What (x), (u) and (w) ask, return by return.
-use Prim.Native.Nat.{ℕ, _≤_, min}
+use Prim.Native.Nat.{ℕ, min}
 use native.Mathlib.Omega.{arith}
 use native.Mathlib.Decide.{decLe}
-use mathlib.Core.Path.{_≡_, refl, sym, ap, _∙_}
+use mathlib.Core.Path.{_≡_}
 use mathlib.Core.Bool.{Bool, true, false, not, _&&_}
 use mathlib.Core.Option.{Option, none}
 use mathlib.Core.List.{List}

@@ -17,10 +17,10 @@ fn is_spilled(spilled: &[u32], value: u32) -> bool
     ensures { λ r. ⌜ r ≡ found (latestOf value (now (spilled .entry))) ⌝ }
 {
     let slot = lists::find_last(spilled, value);
-    if let Found::At(_) = slot {
-        return true;
+    match slot {
+        Found::At(_) => true,
+        Found::Nothing => false,
     }
-    false
 }
 
 // Whether a position may sink below the reach of a swap.

@@ -1,20 +1,20 @@
 -- (u), (v), (w): what a push brings; and what a tick of grow does after the push test's answer.
-use Prim.Native.Nat.{ℕ, _+_, _-_, _<_, _≤_, min, max}
+use Prim.Native.Nat.{ℕ, _+_, _-_, _<_, _≤_, min}
 use native.Mathlib.Omega.{arith}
 use native.Mathlib.Decide.{decLe, decLt}
-use mathlib.Core.Path.{_≡_, refl, sym, ap, _∙_}
-use mathlib.Core.Bool.{Bool, true, false, not, _&&_, true≢false, false≢true}
-use mathlib.Core.Option.{Option, none, some}
-use mathlib.Core.List.{List, []}
-use lib.ListN.{length, getD, take}
-use lib.Dec.{eqb, ltb}
+use mathlib.Core.Path.{_≡_, sym, ap, _∙_}
+use mathlib.Core.Bool.{Bool, true, false, _&&_}
+use mathlib.Core.Option.{none, some}
+use mathlib.Core.List.{List}
+use lib.ListN.{length}
+use lib.Dec.{ltb}
 use borrow.Author.Tests.{le-ltb, lt-ltb, eq-eqb, ne-eqb}
 use Rattle.scope.specs.declared.Op.{Op}
 use Rattle.scope.specs.declared.Found.{Found}
 use Rattle.scope.specs.declared.Found.the-variants.{At, Nothing}
-use Rattle.scope.specs.Words.{lowest, highest, holds, firstOf, latestOf, _∈_, count, _at_, _from_}
+use Rattle.scope.specs.Words.{lowest, holds, latestOf, _at_}
 use Rattle.scope.specs.Stack.{foundOf}
-use Rattle.scope.specs.Rules.{Job, State, Plan, _▹_, Asked, yes as Yes, no as No, outside, differs, needsCopy, outOfReach, mayPush, storeUnlessPush, load, loadSlot, store, ruleU, ruleV, ruleW, growPlan}
+use Rattle.scope.specs.Rules.{Asked, yes as Yes, no as No, outside, differs, needsCopy, outOfReach, mayPush, storeUnlessPush, load, store, ruleU, ruleV, ruleW, growPlan}
 use Rattle.scope.proofs.Walks.{lowest-found, lowest-again, lowest-out, highest-some}
 use Rattle.rules.specs.declared.Choice.{Choice}
 use Rattle.rules.specs.declared.Choice.the-variants.{Pass, Store, Load, Dup, Refuse}

@@ -1,14 +1,13 @@
 -- (a), (c), (e): the test decides whether the top is popped. (f): what is left is the store.
 use Prim.Native.Nat.{ℕ}
 use native.Mathlib.Omega.{arith}
-use mathlib.Core.Path.{_≡_, refl, sym}
+use mathlib.Core.Path.{_≡_, refl}
 use mathlib.Core.Bool.{Bool, true, false, not, _||_}
 use mathlib.Core.List.{List}
 use lib.ListN.{length, getD}
 use lib.Dec.{eqb, leb}
 use Rattle.scope.specs.Words.{_∈_, count, _from_}
 use Rattle.scope.specs.Rules.{extra, ruleA, ruleC, ruleE, ruleF, store}
-use Rattle.rules.specs.declared.Choice.{Choice}
 use Rattle.rules.specs.declared.Choice.the-variants.{Pass, Pop, Store}
 use Rattle.rules.specs.Promises.{Chosen}
 

@@ -1,17 +1,16 @@
 -- (b), (d), (x): the search's answer is the depth of the swap.
 use Prim.Native.Nat.{ℕ, _+_, _-_, _<_, _≤_, min, max}
 use native.Mathlib.Omega.{arith}
-use mathlib.Core.Path.{_≡_, refl, sym, ap, _∙_}
-use mathlib.Core.Bool.{Bool, true, false, not, _&&_}
+use mathlib.Core.Path.{_≡_, refl, ap}
+use mathlib.Core.Bool.{Bool, true, false, _&&_}
 use mathlib.Core.Option.{Option, none, some, Option·none-ne-some}
 use mathlib.Core.List.{List}
 use lib.ListN.{length, getD}
-use lib.Dec.{eqb}
 use Rattle.scope.specs.declared.Found.{Found}
 use Rattle.scope.specs.declared.Found.the-variants.{At, Nothing}
 use Rattle.scope.specs.Words.{if_then_else_, lowest, found, _at_}
 use Rattle.scope.specs.Stack.{foundOf}
-use Rattle.scope.specs.Rules.{differs, wantsTop, extra, extraAt, givesFor, giver, canBeSetRight, ruleB, ruleD, ruleX}
+use Rattle.scope.specs.Rules.{differs, wantsTop, extra, extraAt, giver, canBeSetRight, ruleB, ruleD, ruleX}
 use Rattle.scope.proofs.Walks.{lowest-some, lowest-found, lowest-again, lowest-out}
 use Rattle.rules.specs.declared.Choice.the-variants.{Pass, Swap, SwapPop, Swaps}
 use Rattle.rules.specs.Promises.{Chosen}

@@ -8,7 +8,7 @@ use lib.Dec.{eqb}
 use Rattle.scope.specs.declared.Op.{Op}
 use Rattle.scope.specs.declared.Op.the-variants.{Swap, Dup, Pop, Store, Load}
 use Rattle.scope.specs.Words.{if_then_else_}
-use Rattle.scope.specs.Rules.{Job, State, Plan, write, refuse, pass, _▹_, load, counted, ruleA, ruleB, ruleC, ruleX, ruleU, ruleV, ruleW, storeUnlessPush}
+use Rattle.scope.specs.Rules.{Job, State, Plan, write, refuse, pass, _▹_, load, counted, ruleA, ruleB, ruleC, ruleD, ruleE, ruleF, ruleX, ruleU, ruleV, ruleW, storeUnlessPush}
 use Rattle.rules.specs.declared.Choice.{Choice}
 use Rattle.rules.specs.declared.Choice.the-variants.{Pass, Pop as PopTop, Swap as SwapTop, SwapPop, Swaps, Store as StoreTop, Load as LoadSlot, Dup as DupDepth, Refuse}
 
@@ -69,9 +69,19 @@ infixr 20 _then_
 abbrev pub _then_ : (Job → State → Plan) → (Job → State → Plan) → Job → State → Plan
 (p then q) j s = p j s ▹ q j s
 
+-- what is left of shrink after (b), and after (d)
+abbrev pub fromE : Job → State → Plan
+fromE j s = ruleE j s ▹ ruleF j s
+
+abbrev pub fromC : Job → State → Plan
+fromC j s = ruleC j s ▹ ruleD j s ▹ fromE j s
+
 -- what a tick of grow does with the values that are there, and then with the push test's answer
+abbrev pub fromX : Job → State → Plan
+fromX j s = ruleX j s ▹ ruleC j s
+
 abbrev pub settling : Job → State → Plan
-settling j s = ruleA j s ▹ ruleB j s ▹ ruleX j s ▹ ruleC j s
+settling j s = ruleA j s ▹ ruleB j s ▹ fromX j s
 
 abbrev pub getting : Job → State → Plan
 getting j s = ruleU j s ▹ ruleV j s ▹ ruleW j s

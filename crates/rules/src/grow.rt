@@ -1,5 +1,4 @@
 // Grow: (x), (u), (v), (w), and the order in which a tick of grow tries the rules.
-ghost use mathlib.Core.Path.{_≡_};
 ghost use mathlib.Core.List.{List};
 ghost use Prim.Native.Nat.{ℕ};
 ghost use Rattle.scope.specs.Rules as R;
@@ -118,6 +117,17 @@ fn unspill_needed<'a>(
     Choice::Refuse(8)
 }
 
+// (x), (c).
+fn exchange_or_pop<'a>(current: &'a [u32], target: &'a [u32], complete: usize, swaps: u8) -> Choice
+    ensures { λ r. ⌜ ((L : List ℕ) (D : ℕ) → K.Chosen 1 (now (current .entry)) (now (target .entry)) L complete swaps D K.fromX r) ⌝ }
+{
+    let x = exchange_via_top(current, target, complete, swaps);
+    if applies(x) {
+        return x;
+    }
+    pop_extra(current, target, complete)
+}
+
 // What a tick of grow does with the values that are there: (a), (b), (x), (c).
 fn settle<'a>(current: &'a [u32], target: &'a [u32], complete: usize, swaps: u8) -> Choice
     ensures { λ r. ⌜ ((L : List ℕ) (D : ℕ) → K.Chosen 1 (now (current .entry)) (now (target .entry)) L complete swaps D K.settling r) ⌝ }
@@ -130,11 +140,7 @@ fn settle<'a>(current: &'a [u32], target: &'a [u32], complete: usize, swaps: u8)
     if applies(b) {
         return b;
     }
-    let x = exchange_via_top(current, target, complete, swaps);
-    if applies(x) {
-        return x;
-    }
-    pop_extra(current, target, complete)
+    exchange_or_pop(current, target, complete, swaps)
 }
 
 // Where a push is allowed: (u), (v), (w).

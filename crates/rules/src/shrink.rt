@@ -1,5 +1,4 @@
 // Shrink: (a) to (f), and the order in which a tick of shrink tries them.
-ghost use mathlib.Core.Path.{_≡_};
 ghost use mathlib.Core.List.{List};
 ghost use Prim.Native.Nat.{ℕ};
 ghost use Rattle.scope.specs.Rules as R;
@@ -88,7 +87,33 @@ fn pop_duplicate<'a>(current: &'a [u32], target: &'a [u32], complete: usize) -> 
     Choice::Pass
 }
 
-// What a tick of shrink does. (f), the store, is what is left.
+// (e), and (f): what is left is the store.
+fn drop_duplicate<'a>(current: &'a [u32], target: &'a [u32], complete: usize) -> Choice
+    ensures { λ r. ⌜ ((L : List ℕ) (S D : ℕ) → K.Chosen 1 (now (current .entry)) (now (target .entry)) L complete S D K.fromE r) ⌝ }
+{
+    let e = pop_duplicate(current, target, complete);
+    if applies(e) {
+        return e;
+    }
+    Choice::Store
+}
+
+// (c), (d), and what follows them.
+fn drop_extra<'a>(current: &'a [u32], target: &'a [u32], complete: usize, swaps: u8) -> Choice
+    ensures { λ r. ⌜ ((L : List ℕ) (D : ℕ) → K.Chosen 1 (now (current .entry)) (now (target .entry)) L complete swaps D K.fromC r) ⌝ }
+{
+    let c = pop_extra(current, target, complete);
+    if applies(c) {
+        return c;
+    }
+    let d = swap_and_pop_extra(current, target, complete, swaps);
+    if applies(d) {
+        return d;
+    }
+    drop_duplicate(current, target, complete)
+}
+
+// What a tick of shrink does: (a), (b), and what follows them.
 pub fn shrink_choice<'a>(
     current: &'a [u32],
     target: &'a [u32],
@@ -105,17 +130,5 @@ pub fn shrink_choice<'a>(
     if applies(b) {
         return b;
     }
-    let c = pop_extra(current, target, complete);
-    if applies(c) {
-        return c;
-    }
-    let d = swap_and_pop_extra(current, target, complete, swaps);
-    if applies(d) {
-        return d;
-    }
-    let e = pop_duplicate(current, target, complete);
-    if applies(e) {
-        return e;
-    }
-    Choice::Store
+    drop_extra(current, target, complete, swaps)
 }

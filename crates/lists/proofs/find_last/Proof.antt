@@ -1,6 +1,6 @@
 -- The search below k gives the whole answer; a turn looks at the entry under it.
 use borrow.Author.Needs.{needs}
-use Prim.Native.Nat.{_-_, _≤_}
+use Prim.Native.Nat.{_≤_}
 use mathlib.Core.Path.{_≡_, refl}
 use lib.ListN.{length}
 use Rattle.scope.specs.Words.{highest, holds, latestOf}

@@ -1,12 +1,8 @@
 -- Both values are read, and compared.
 use borrow.Author.Needs.{needs}
-use Rattle.scope.specs.Rules.{differs}
+use Rattle.questions.proofs.Needing.{two-values}
 use Rattle.questions.proofs.differs.Statement.{statement}
 use Rattle.questions.proofs.differs.Tie as tie
-
-returns : tie.Need-returns
-unfolding differs
-returns c = rw (← (c .before .at .ensures), ← (c .at2 .ensures))
 
 pub differs-spec : {M : Type 1} → statement M
 differs-spec =
@@ -14,4 +10,4 @@ differs-spec =
     (tie.spec
     (λ c κs. search needs)
     (λ c κs. search needs)
-    returns)
+    (λ c. search (two-values, needs)))

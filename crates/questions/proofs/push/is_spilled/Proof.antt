@@ -10,6 +10,6 @@ is-spilled-spec =
     (tie.spec
     (λ c κs. search needs)
     (λ c. search needs)
-    (λ c. search (spilled-found, needs))
     (λ c. search needs)
+    (λ c. search (spilled-found, needs))
     (λ c. search (spilled-none, needs)))

@@ -1,5 +1,6 @@
 -- The count is compared with 2.
 use borrow.Author.Needs.{needs}
+use Rattle.questions.proofs.Needing.{twice}
 use Rattle.questions.proofs.shrink.is_duplicate.Statement.{statement}
 use Rattle.questions.proofs.shrink.is_duplicate.Tie as tie
 
@@ -9,4 +10,4 @@ is-duplicate-spec =
     (tie.spec
     (λ c κs. search needs)
     (λ c κs. search needs)
-    (λ c. rw (← (c .before .part .ensures), ← (c .count-of .ensures))))
+    (λ c. search (twice, needs)))

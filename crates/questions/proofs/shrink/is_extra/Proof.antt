@@ -1,12 +1,8 @@
 -- The two counts are compared.
 use borrow.Author.Needs.{needs}
-use Rattle.scope.specs.Rules.{extra}
+use Rattle.questions.proofs.Needing.{more-often}
 use Rattle.questions.proofs.shrink.is_extra.Statement.{statement}
 use Rattle.questions.proofs.shrink.is_extra.Tie as tie
-
-returns : tie.Need-returns
-unfolding extra
-returns c = cc
 
 pub is-extra-spec : {M : Type 1} → statement M
 is-extra-spec =
@@ -16,4 +12,4 @@ is-extra-spec =
     (λ c κs. search needs)
     (λ c κs. search needs)
     (λ c κs. search needs)
-    returns)
+    (λ c. search (more-often, needs)))

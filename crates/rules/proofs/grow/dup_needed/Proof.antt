@@ -1,6 +1,6 @@
 -- The search from p on gives the whole answer; a turn looks for one position's copy.
 use borrow.Author.Needs.{needs}
-use Prim.Native.Nat.{_-_, _≤_, min}
+use Prim.Native.Nat.{_-_, min}
 use native.Mathlib.Omega.{arith}
 use mathlib.Core.Path.{_≡_, refl}
 use lib.ListN.{length}

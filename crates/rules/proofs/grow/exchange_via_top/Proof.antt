@@ -29,7 +29,7 @@ exchange-via-top-spec =
     (λ c. search needs)
     (λ c κs. search (x-depth, needs))
     (λ c κs. search needs)
-    (λ c. x-swaps _ _ _ _ _ (c .before .before .before .before .before .before .before .loop .inv .1) _ _ _ (c .before .before .before .before .before .source-for .ensures) (c .before .before .before .src .given .1) _ _ (omega arith) (c .before .before .before .before .before .before .before .loop .inv .3) (c .before .depth .ensures) (c .depth2 .ensures))
+    (λ c. x-swaps _ _ _ _ _ (c .before .before .before .before .before .before .before .loop .inv .1) _ _ _ (c .before .before .before .before .before .source-for .ensures) (c .before .before .before .src .given .1) _ _ (omega arith) (c .before .before .before .before .before .before .before .loop .inv .3) (search needs) (search needs))
     (λ c. search needs)
     (λ c. search needs)
     (λ c. search needs)

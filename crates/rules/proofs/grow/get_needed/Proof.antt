@@ -1,6 +1,6 @@
 -- The first of (u), (v), (w) that applies.
 use borrow.Author.Needs.{needs}
-use Rattle.rules.proofs.Chains.{getting-needed}
+use Rattle.rules.proofs.Chains.{get-u, get-v, get-w}
 use Rattle.rules.proofs.grow.get_needed.Statement.{statement}
 use Rattle.rules.proofs.grow.get_needed.Tie as tie
 
@@ -10,9 +10,9 @@ get-needed-spec =
     (tie.spec
     (λ c κs. search needs)
     (λ c κs. search needs)
-    (λ c. search (getting-needed, needs))
+    (λ c. search (get-u, needs))
     (λ c κs. search needs)
     (λ c κs. search needs)
-    (λ c. search (getting-needed, needs))
+    (λ c. search (get-v, needs))
     (λ c κs. search needs)
-    (λ c. search (getting-needed, needs)))
+    (λ c. search (get-w, needs)))

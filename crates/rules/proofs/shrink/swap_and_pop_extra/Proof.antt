@@ -2,7 +2,7 @@
 use borrow.Author.Needs.{needs}
 use Prim.Native.Nat.{_-_, _≤_, max}
 use native.Mathlib.Omega.{arith}
-use mathlib.Core.Path.{_≡_, sym, _∙_}
+use mathlib.Core.Path.{_≡_}
 use lib.ListN.{length}
 use Rattle.scope.specs.Words.{lowest}
 use Rattle.scope.specs.Rules.{extraAt}
@@ -28,7 +28,7 @@ swap-and-pop-extra-spec =
     (λ c κs. search needs)
     (λ c κs. search needs)
     (λ c κs. search needs)
-    (λ c. d-swap _ _ _ _ _ _ (lowest-found _ _ _ _ (omega arith) (extra-at _ _ _ _ _ _ _ (c .before .before .before .at .ensures) (c .before .before .is-extra .ensures) (c .before .if1 .taken)) (c .before .before .before .before .before .loop .inv .1)) (c .depth .ensures))
+    (λ c. d-swap _ _ _ _ _ _ (lowest-found _ _ _ _ (omega arith) (extra-at _ _ _ _ _ _ _ (c .before .before .before .at .ensures) (c .before .before .is-extra .ensures) (c .before .if1 .taken)) (c .before .before .before .before .before .loop .inv .1)) (search needs))
     (λ c. search needs)
     (λ c. search needs)
     (λ c. (search needs, lowest-again _ _ _ _ (omega arith) (extra-at _ _ _ _ _ _ _ (c .before .before .at .ensures) (c .before .is-extra .ensures) (c .if1 .left)) (c .before .before .before .before .loop .inv .1)))

@@ -29,7 +29,7 @@ swap-to-correct-position-spec =
     (λ c. (search needs, search needs, rw (c .floor .ensures)))
     (λ c κs. search needs)
     (λ c κs. search needs)
-    (λ c. b-swap _ _ _ _ _ (c .before .before .before .before .before .before .before .top .ensures) _ _ (lowest-found _ _ _ _ (omega arith) (sym (c .before .before .wants-top .ensures) ∙ c .before .if1 .taken) (c .before .before .before .before .loop .inv .2)) (c .depth .ensures))
+    (λ c. b-swap _ _ _ _ _ (c .before .before .before .before .before .before .before .top .ensures) _ _ (lowest-found _ _ _ _ (omega arith) (sym (c .before .before .wants-top .ensures) ∙ c .before .if1 .taken) (c .before .before .before .before .loop .inv .2)) (search needs))
     (λ c. search needs)
     (λ c. search needs)
     (λ c. (search needs, search needs, lowest-again _ _ _ _ (omega arith) (sym (c .before .wants-top .ensures) ∙ c .if1 .left) (c .before .before .before .loop .inv .2)))
