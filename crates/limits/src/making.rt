@@ -189,7 +189,7 @@ fn asking() {
     parts_are(3, 5, 4);
 }
 
-pub fn run() {
+pub(crate) fn run() {
     from_evm();
     from_parts();
     cloning();

@@ -97,7 +97,7 @@ fn exchanges() {
     exchange(255, 255, 255);
 }
 
-pub fn run() {
+pub(crate) fn run() {
     max_swap_no_exchange(0);
     max_swap_no_exchange(1);
     max_swap_no_exchange(2);

@@ -7,32 +7,32 @@ use stack::EvmStack;
 use tracked_state::Made;
 use tracked_state::TrackedState;
 
-pub fn text(t: &[u8]) {
+pub(crate) fn text(t: &[u8]) {
     io::write_all(STDOUT_FILENO, t);
 }
 
-pub fn number(t: &[u8], n: u64) {
+pub(crate) fn number(t: &[u8], n: u64) {
     text(t);
     io::print_decimal(STDOUT_FILENO, n);
 }
 
-pub fn word(t: &[u8], n: u32) {
+pub(crate) fn word(t: &[u8], n: u32) {
     number(t, n as u64);
 }
 
-pub fn short(t: &[u8], n: u16) {
+pub(crate) fn short(t: &[u8], n: u16) {
     number(t, n as u64);
 }
 
-pub fn byte(t: &[u8], n: u8) {
+pub(crate) fn byte(t: &[u8], n: u8) {
     number(t, n as u64);
 }
 
-pub fn size(t: &[u8], n: usize) {
+pub(crate) fn size(t: &[u8], n: usize) {
     number(t, n as u64);
 }
 
-pub fn yes_or_no(yes: bool) {
+pub(crate) fn yes_or_no(yes: bool) {
     if yes {
         text(b": yes\n");
     } else {
@@ -41,7 +41,7 @@ pub fn yes_or_no(yes: bool) {
 }
 
 // A value or a slot's number, or that there is none.
-pub fn word_or_nothing(w: Word) {
+pub(crate) fn word_or_nothing(w: Word) {
     match w {
         Word::Is(v) => word(b": ", v),
         Word::Nothing => text(b": nothing"),
@@ -49,7 +49,7 @@ pub fn word_or_nothing(w: Word) {
 }
 
 // The first five entries of a list, then its last.
-pub fn list(s: &[u32]) {
+pub(crate) fn list(s: &[u32]) {
     let mut i = 0;
     while i < s.len() {
         if i < 5 {
@@ -64,7 +64,7 @@ pub fn list(s: &[u32]) {
 }
 
 // In how many places two lists differ.
-pub fn differing(a: &[u32], b: &[u32]) -> usize {
+pub(crate) fn differing(a: &[u32], b: &[u32]) -> usize {
     let mut n = 0;
     let mut i = 0;
     while i < a.len() {
@@ -81,7 +81,7 @@ pub fn differing(a: &[u32], b: &[u32]) -> usize {
 }
 
 // Writes 1, 2, 3 and so on.
-pub fn count_up(values: &mut [u32]) {
+pub(crate) fn count_up(values: &mut [u32]) {
     let mut next = 1;
     let mut i = 0;
     while i < values.len() {
@@ -94,7 +94,7 @@ pub fn count_up(values: &mut [u32]) {
 }
 
 // The values 1, 2, 3 and so on, top first; above 1,024 only the length field grows.
-pub fn stack_of(height: u16) -> EvmStack {
+pub(crate) fn stack_of(height: u16) -> EvmStack {
     let mut values = [0u32; 1024];
     count_up(&mut values);
     let part = tracked::underlying_spilled(&values, height as usize);
@@ -105,7 +105,7 @@ pub fn stack_of(height: u16) -> EvmStack {
 }
 
 // The stack after a call: its length field, how many of its words are others than before, its values.
-pub fn stack_after(before: EvmStack, after: EvmStack) {
+pub(crate) fn stack_after(before: EvmStack, after: EvmStack) {
     let changed = differing(&before.stack_raw, &after.stack_raw);
     let len = after.stack_len;
     short(b", stack_len ", len);
@@ -116,7 +116,7 @@ pub fn stack_after(before: EvmStack, after: EvmStack) {
 }
 
 // The answer of a call that changes a stack.
-pub fn answer(before: EvmStack, a: Answer) {
+pub(crate) fn answer(before: EvmStack, a: Answer) {
     let after = a.stack;
     word(b": code ", a.code);
     stack_after(before, after);
@@ -124,7 +124,7 @@ pub fn answer(before: EvmStack, a: Answer) {
 }
 
 // A tracked state over the values 1, 2, 3 and so on.
-pub fn state_of(height: u16, first: u32, filled: usize, written: usize) -> TrackedState {
+pub(crate) fn state_of(height: u16, first: u32, filled: usize, written: usize) -> TrackedState {
     let stack = stack_of(height);
     TrackedState {
         stack,
@@ -135,7 +135,7 @@ pub fn state_of(height: u16, first: u32, filled: usize, written: usize) -> Track
 }
 
 // The numbers of the state that a call is asked of.
-pub fn asked_of(t: TrackedState) {
+pub(crate) fn asked_of(t: TrackedState) {
     short(b" at ", t.stack.stack_len);
     word(b", first ", t.first);
     size(b", filled ", t.filled);
@@ -143,7 +143,7 @@ pub fn asked_of(t: TrackedState) {
 }
 
 // The state after a call.
-pub fn state_after(before: TrackedState, after: TrackedState) {
+pub(crate) fn state_after(before: TrackedState, after: TrackedState) {
     word(b", first ", after.first);
     size(b", filled ", after.filled);
     size(b", written ", after.written);
@@ -153,7 +153,7 @@ pub fn state_after(before: TrackedState, after: TrackedState) {
 }
 
 // The operation's two words, or the code of the refusal.
-pub fn step(s: Step) {
+pub(crate) fn step(s: Step) {
     match s {
         Step::Wrote(op) => {
             let kind = operations::kind_of(op);
@@ -166,7 +166,7 @@ pub fn step(s: Step) {
 }
 
 // The buffers after a call.
-pub fn buffers(spill: &[u32], ops: &[u32]) {
+pub(crate) fn buffers(spill: &[u32], ops: &[u32]) {
     text(b", slots");
     list(spill);
     text(b", words");
@@ -175,7 +175,7 @@ pub fn buffers(spill: &[u32], ops: &[u32]) {
 }
 
 // The answer of a call that makes a tracked state; its stack is held against the one that it was given.
-pub fn made(given: TrackedState, m: Made) {
+pub(crate) fn made(given: TrackedState, m: Made) {
     let after = m.state;
     word(b": code ", m.code);
     state_after(given, after);

@@ -267,7 +267,7 @@ fn finding() {
     count_sevens(65535);
 }
 
-pub fn run() {
+pub(crate) fn run() {
     making();
     growing();
     duplicating();

@@ -225,7 +225,7 @@ fn unspills() {
     unspill(65535, 5, 4, 1, 71);
 }
 
-pub fn run() {
+pub(crate) fn run() {
     pops();
     rooms();
     swaps();
