@@ -12,4 +12,4 @@ pub mod Success
 pub mod OnEvm
 pub mod Once
 pub mod Loops
-pub mod Answers
+pub mod WhichCodes
