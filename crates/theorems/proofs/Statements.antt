@@ -27,7 +27,8 @@ use Rattle.scope.proofs.Once.{determined}
 use Rattle.stack.specs.Promises.{stackIn}
 use Rattle.operations.specs.declared.ScheduleConfig.{ScheduleConfig}
 use Rattle.tracked_state.specs.declared.TrackedState.{TrackedState}
-use Rattle.shuffler.specs.Promises.{lentPlain, lentState}
+use Rattle.tracked_state.specs.Promises.{trackedOf}
+use Rattle.shuffler.specs.Promises.{lentPlain, lentState, stateDue}
 use Rattle.replay.specs.Promises.{answered}
 use Rattle.theorems.specs.Outcomes.{Shuffled, shows, Shuffles, Checked, finds, Checks, lentAfter, confirmDue, Wrote, OnEvm}
 use Rattle.theorems.proofs.After.{after-shuffle, confirms-success}
@@ -172,6 +173,10 @@ shuffle-once = determined shows shuffleDue
 
 pub check-once : Once finds checkDue
 check-once = determined finds checkDue
+
+-- and of the state that `run` and the entry leave, its stack, its first slot and its counts; where codes 1 to 5 refuse, it is the state that was lent
+pub state-once : Once trackedOf stateDue
+state-once = determined trackedOf stateDue
 
 -- ---- Every call states its start
 
