@@ -146,6 +146,45 @@ static int check_case(size_t i) {
            same(again.spill, b.spill, SLOTS);
 }
 
+/* before an odd number of words is looked at */
+static int check_refused(size_t i) {
+    const job *j = &refused[i];
+    buffers b = lent(NULL, 0);
+    njallavet_verdict v = njallavet_check(many, j->starts, b.spill, SLOTS, j->filled, j->first, many, j->targets, j->swaps, 0, b.ops, WORDS);
+    return v.code == i + 1 && v.index == 0 && v.gas == 0 && v.filled == 0 && unused(b.spill, SLOTS);
+}
+
+/* a list for each fault, on a stack of so many 1s, with one slot of number 5, limits 2/1 and the target 1 */
+static const struct {
+    uint32_t code;
+    size_t height;
+    uint32_t words[8];
+    size_t count, index;
+    uint64_t gas;
+    size_t filled;
+} faults[] = {
+    {NJALLAVET_ODD, 1, {3}, 1, 0, 0, 0},
+    {NJALLAVET_UNKNOWN, 1, {3, 1}, 2, 0, 0, 0},
+    {NJALLAVET_SWAP_FAR, 1, {1, 0}, 2, 0, 0, 0},
+    {NJALLAVET_SWAP_BELOW, 1, {1, 1}, 2, 0, 0, 0},
+    {NJALLAVET_DUP_FAR, 1, {2, 2}, 2, 0, 0, 0},
+    {NJALLAVET_DUP_BELOW, 1, {2, 1}, 2, 0, 0, 0},
+    {NJALLAVET_TOO_HIGH, 1024, {2, 0}, 2, 0, 0, 0},
+    {NJALLAVET_NONE_LEFT, 1, {3, 0, 3, 0}, 4, 1, 3, 0},
+    {NJALLAVET_OTHER_SLOT, 1, {4, 6}, 2, 0, 0, 0},
+    {NJALLAVET_NO_SLOT, 1, {2, 0, 4, 5, 2, 0, 4, 6}, 8, 3, 12, 1},
+    {NJALLAVET_NOT_FILLED, 1, {5, 5}, 2, 0, 0, 0},
+    {NJALLAVET_UNLIKE, 1, {3, 0}, 2, 1, 3, 0},
+};
+enum { FAULTS = sizeof faults / sizeof *faults };
+
+static int check_fault(size_t i) {
+    uint32_t slot = UNUSED_WORD;
+    njallavet_verdict v = njallavet_check(many, faults[i].height, &slot, 1, 0, 5, many, 1, 2, 1, faults[i].words, faults[i].count);
+    return v.code == faults[i].code && v.code == 30 + i && v.index == faults[i].index && v.gas == faults[i].gas &&
+           v.filled == faults[i].filled && slot == (v.filled ? 1 : UNUSED_WORD);
+}
+
 /* ---- njallavet_run */
 
 static int run_case(size_t i) {
@@ -223,6 +262,8 @@ int main(void) {
     tried("njallavet_shuffle, codes 1 to 5", shuffle_refused, 5, '1');
     tried("njallavet_shuffle, every field of an answer", shuffle_fields, 1, '1');
     tried("njallavet_check, what cases A to L wrote", check_case, CASES, 'A');
+    tried("njallavet_check, codes 1 to 5", check_refused, 5, '1');
+    tried("njallavet_check, a list for each fault from 30 to 41", check_fault, FAULTS, 'a');
     tried("njallavet_run, cases A to L", run_case, CASES, 'A');
     tried("njallavet_run, codes 1 to 5 leave the state as lent", run_refused, 5, '1');
     tried("njallavet_run, runs one after the other on one state", run_on_one_state, 1, '1');

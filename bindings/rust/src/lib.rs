@@ -11,7 +11,7 @@
 //! let limits = Limits { max_swap_depth: 3, max_dup_depth: 2 };
 //! let answer = shuffle(&[3, 2, 9], spill, &[3, 2, 2], limits, &mut words).done()?; // or what it is refused with, a `Refusal`
 //! for op in operations(&words[..2 * answer.ops]).flatten() {
-//!     println!("{op:?}"); // Dup(1), Swap(3), Pop
+//!     println!("{op}"); // Dup(1), Swap(3), Pop
 //! }
 //! # use njallavet::Op;
 //! # let list: Vec<_> = operations(&words[..2 * answer.ops]).flatten().collect();
@@ -25,9 +25,10 @@ mod state;
 
 pub use codes::{Fault, NoCode, Refusal};
 pub use state::State;
+use std::fmt;
 
 /// One operation of the machine.
-#[derive(Debug, Clone, Copy, PartialEq, Eq)]
+#[derive(Debug, Clone, Copy, PartialEq, Eq, Hash)]
 pub enum Op {
     Swap(u8),
     Dup(u8),
@@ -46,6 +47,30 @@ impl Op {
             (4, id) => Some(Op::Store(id)),
             (5, id) => Some(Op::Load(id)),
             _ => None,
+        }
+    }
+
+    /// Its record of two words: the kind and the argument.
+    pub fn to_words(self) -> [u32; 2] {
+        match self {
+            Op::Swap(depth) => [1, depth.into()],
+            Op::Dup(depth) => [2, depth.into()],
+            Op::Pop => [3, 0],
+            Op::Store(id) => [4, id],
+            Op::Load(id) => [5, id],
+        }
+    }
+}
+
+/// The driver's form: `Swap(3)`, `Dup(1)`, `Pop`, `store(5)`, `load(5)`.
+impl fmt::Display for Op {
+    fn fmt(&self, f: &mut fmt::Formatter<'_>) -> fmt::Result {
+        match self {
+            Op::Swap(depth) => write!(f, "Swap({depth})"),
+            Op::Dup(depth) => write!(f, "Dup({depth})"),
+            Op::Pop => write!(f, "Pop"),
+            Op::Store(id) => write!(f, "store({id})"),
+            Op::Load(id) => write!(f, "load({id})"),
         }
     }
 }
@@ -68,6 +93,7 @@ impl Default for Limits {
 
 /// What a shuffle answers. The counts and the stack hold for a refusal of 6 to 12 too: everything before the refused operation stands.
 #[derive(Debug, Clone, PartialEq, Eq)]
+#[must_use = "a shuffle may be refused"]
 pub struct Answer {
     /// Nothing where the shuffle is done.
     pub refusal: Option<Refusal>,
@@ -104,6 +130,7 @@ impl Answer {
 
 /// The verdict of the checker on a list.
 #[derive(Debug, Clone, Copy, PartialEq, Eq)]
+#[must_use = "a list may be at fault"]
 pub struct Verdict {
     /// Nothing where the list is accepted.
     pub fault: Option<Fault>,

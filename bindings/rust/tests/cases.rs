@@ -130,16 +130,18 @@ fn shuffle_every_field_of_an_answer() {
     assert!(ops[14..].iter().all(|&w| w == UNUSED));
 }
 
+/// A job that each of the codes 1 to 5 refuses: the swap limit, the heights of the start and the target, the slots filled, the first slot.
+const REFUSED: [(u8, usize, usize, usize, u32); 5] = [
+    (0, 0, 0, 0, 0),
+    (1, 1025, 0, 0, 0),
+    (1, 0, 1025, 0, 0),
+    (1, 0, 0, 17, 0),
+    (1, 0, 0, 0, u32::MAX),
+];
+
 #[test]
 fn shuffle_codes_1_to_5_change_nothing() {
-    let jobs: [(u8, usize, usize, usize, u32, Refusal); 5] = [
-        (0, 0, 0, 0, 0, Refusal::Limit),
-        (1, 1025, 0, 0, 0, Refusal::Start),
-        (1, 0, 1025, 0, 0, Refusal::Target),
-        (1, 0, 0, 17, 0, Refusal::Filled),
-        (1, 0, 0, 0, u32::MAX, Refusal::Slots),
-    ];
-    for (max_swap_depth, start, target, filled, first, refusal) in jobs {
+    for ((max_swap_depth, start, target, filled, first), code) in REFUSED.into_iter().zip(1..) {
         let (mut spill, mut ops) = lent(NONE);
         let lent = Spill {
             words: &mut spill,
@@ -151,16 +153,48 @@ fn shuffle_codes_1_to_5_change_nothing() {
             max_dup_depth: 0,
         };
         let answer = shuffle(&vec![1; start], lent, &vec![1; target], limits, &mut ops);
-        let none = Answer {
-            refusal: Some(refusal),
-            shrink_ticks: 0,
-            grow_ticks: 0,
-            ops: 0,
-            slots: 0,
-            stack: vec![],
-        };
-        assert_eq!(answer, none);
+        let refusal = Refusal::try_from(code).ok();
+        assert_eq!(
+            answer,
+            Answer {
+                refusal,
+                shrink_ticks: 0,
+                grow_ticks: 0,
+                ops: 0,
+                slots: 0,
+                stack: vec![]
+            }
+        );
         assert!(spill.iter().chain(&ops).all(|&w| w == UNUSED));
+    }
+}
+
+/// Before an odd number of words is looked at.
+#[test]
+fn check_codes_1_to_5_change_nothing() {
+    for ((max_swap_depth, start, target, filled, first), code) in REFUSED.into_iter().zip(1..) {
+        let (mut spill, ops) = lent(NONE);
+        let lent = Spill {
+            words: &mut spill,
+            filled,
+            first,
+        };
+        let limits = Limits {
+            max_swap_depth,
+            max_dup_depth: 0,
+        };
+        let verdict = check(&vec![1; start], lent, &vec![1; target], limits, &ops);
+        let fault = Fault::try_from(code).ok();
+        assert_eq!(
+            verdict,
+            Verdict {
+                fault,
+                index: 0,
+                gas: 0,
+                filled: 0
+            }
+        );
+        assert!(spill.iter().all(|&w| w == UNUSED));
     }
 }
 
@@ -223,6 +257,34 @@ fn check_what_cases_a_to_l_wrote() {
         assert_eq!(verdict, due, "{}", case.letter);
         assert_eq!(verdict.accepted().err(), fault);
         assert_eq!(again, spill, "{}", case.letter);
+    }
+}
+
+/// A list for each fault, on a stack of so many 1s, with one slot of number 5, limits 2/1 and the target 1.
+#[test]
+#[rustfmt::skip]
+fn check_names_each_fault() {
+    let lists: [(usize, &[u32], Fault, usize, u64, usize); 12] = [
+        (1, &[3], Fault::Odd, 0, 0, 0),
+        (1, &[3, 1], Fault::Unknown, 0, 0, 0),
+        (1, &[1, 0], Fault::SwapFar, 0, 0, 0),
+        (1, &[1, 1], Fault::SwapBelow, 0, 0, 0),
+        (1, &[2, 2], Fault::DupFar, 0, 0, 0),
+        (1, &[2, 1], Fault::DupBelow, 0, 0, 0),
+        (1024, &[2, 0], Fault::TooHigh, 0, 0, 0),
+        (1, &[3, 0, 3, 0], Fault::NoneLeft, 1, 3, 0),
+        (1, &[4, 6], Fault::OtherSlot, 0, 0, 0),
+        (1, &[2, 0, 4, 5, 2, 0, 4, 6], Fault::NoSlot, 3, 12, 1),
+        (1, &[5, 5], Fault::NotFilled, 0, 0, 0),
+        (1, &[3, 0], Fault::Unlike, 1, 3, 0),
+    ];
+    for ((height, words, fault, index, gas, filled), code) in lists.into_iter().zip(30..) {
+        let mut slot = [UNUSED];
+        let spill = Spill { words: &mut slot, filled: 0, first: 5 };
+        let limits = Limits { max_swap_depth: 2, max_dup_depth: 1 };
+        let verdict = check(&vec![1; height], spill, &[1], limits, words);
+        assert_eq!(verdict, Verdict { fault: Some(fault), index, gas, filled });
+        assert_eq!((fault.code(), slot), (code, [if filled == 1 { 1 } else { UNUSED }]));
     }
 }
 
@@ -343,4 +405,16 @@ fn a_code_has_document_01_s_number_and_name() {
         error.to_string(),
         "MISSING (6): the value to load is not stored"
     );
+}
+
+#[test]
+fn an_operation_has_two_words_and_a_printed_form() {
+    let ops = [Swap(255), Dup(0), Pop, Store(5), Load(u32::MAX)];
+    let words = [1, 255, 2, 0, 3, 0, 4, 5, 5, u32::MAX];
+    assert_eq!(ops.map(Op::to_words).concat(), words);
+    assert_eq!(listed(&words), ops);
+    let none = [0, 0, 6, 0, 3, 1, 1, 256, 2, 256];
+    assert!(operations(&none).all(|op| op.is_none()));
+    let printed = ops.map(|op| op.to_string()).join(" ");
+    assert_eq!(printed, "Swap(255) Dup(0) Pop store(5) load(4294967295)");
 }
