@@ -260,31 +260,47 @@ fn check_what_cases_a_to_l_wrote() {
     }
 }
 
+fn fault(fault: Fault, index: usize, gas: u64, filled: usize) -> Verdict {
+    Verdict {
+        fault: Some(fault),
+        index,
+        gas,
+        filled,
+    }
+}
+
 /// A list for each fault, on a stack of so many 1s, with one slot of number 5, limits 2/1 and the target 1.
 #[test]
-#[rustfmt::skip]
 fn check_names_each_fault() {
-    let lists: [(usize, &[u32], Fault, usize, u64, usize); 12] = [
-        (1, &[3], Fault::Odd, 0, 0, 0),
-        (1, &[3, 1], Fault::Unknown, 0, 0, 0),
-        (1, &[1, 0], Fault::SwapFar, 0, 0, 0),
-        (1, &[1, 1], Fault::SwapBelow, 0, 0, 0),
-        (1, &[2, 2], Fault::DupFar, 0, 0, 0),
-        (1, &[2, 1], Fault::DupBelow, 0, 0, 0),
-        (1024, &[2, 0], Fault::TooHigh, 0, 0, 0),
-        (1, &[3, 0, 3, 0], Fault::NoneLeft, 1, 3, 0),
-        (1, &[4, 6], Fault::OtherSlot, 0, 0, 0),
-        (1, &[2, 0, 4, 5, 2, 0, 4, 6], Fault::NoSlot, 3, 12, 1),
-        (1, &[5, 5], Fault::NotFilled, 0, 0, 0),
-        (1, &[3, 0], Fault::Unlike, 1, 3, 0),
+    let lists: [(usize, &[u32], Verdict); 12] = [
+        (1, &[3], fault(Fault::Odd, 0, 0, 0)),
+        (1, &[3, 1], fault(Fault::Unknown, 0, 0, 0)),
+        (1, &[1, 0], fault(Fault::SwapFar, 0, 0, 0)),
+        (1, &[1, 1], fault(Fault::SwapBelow, 0, 0, 0)),
+        (1, &[2, 2], fault(Fault::DupFar, 0, 0, 0)),
+        (1, &[2, 1], fault(Fault::DupBelow, 0, 0, 0)),
+        (1024, &[2, 0], fault(Fault::TooHigh, 0, 0, 0)),
+        (1, &[3, 0, 3, 0], fault(Fault::NoneLeft, 1, 3, 0)),
+        (1, &[4, 6], fault(Fault::OtherSlot, 0, 0, 0)),
+        (1, &[2, 0, 4, 5, 2, 0, 4, 6], fault(Fault::NoSlot, 3, 12, 1)),
+        (1, &[5, 5], fault(Fault::NotFilled, 0, 0, 0)),
+        (1, &[3, 0], fault(Fault::Unlike, 1, 3, 0)),
     ];
-    for ((height, words, fault, index, gas, filled), code) in lists.into_iter().zip(30..) {
+    for ((height, words, due), code) in lists.into_iter().zip(30..) {
         let mut slot = [UNUSED];
-        let spill = Spill { words: &mut slot, filled: 0, first: 5 };
-        let limits = Limits { max_swap_depth: 2, max_dup_depth: 1 };
+        let spill = Spill {
+            words: &mut slot,
+            filled: 0,
+            first: 5,
+        };
+        let limits = Limits {
+            max_swap_depth: 2,
+            max_dup_depth: 1,
+        };
         let verdict = check(&vec![1; height], spill, &[1], limits, words);
-        assert_eq!(verdict, Verdict { fault: Some(fault), index, gas, filled });
-        assert_eq!((fault.code(), slot), (code, [if filled == 1 { 1 } else { UNUSED }]));
+        assert_eq!(verdict, due);
+        assert_eq!(verdict.fault.map(Fault::code), Some(code));
+        assert_eq!(slot, [if due.filled == 1 { 1 } else { UNUSED }]);
     }
 }
 
