@@ -45,6 +45,7 @@ prepare_arm() {
     PLATFORM=x86_64-unknown-linux-gnu EMULATOR=qemu-x86_64
     export CARGO_TARGET_X86_64_UNKNOWN_LINUX_GNU_LINKER=x86_64-linux-gnu-gcc
     can_cross && return 0
+    (PATH=/usr/bin:$PATH && rust_will_do && can_cross) && PATH=/usr/bin:$PATH && return 0
     command -v apt-get >/dev/null 2>&1 || return 1
     as_root dpkg --add-architecture amd64 && as_root apt-get update >&2 || return 1
     install gcc-x86-64-linux-gnu libc6-dev-amd64-cross qemu-user || return 1

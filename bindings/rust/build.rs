@@ -7,7 +7,10 @@ fn main() {
         || PathBuf::from(env::var_os("CARGO_MANIFEST_DIR").unwrap()).join("../../target/staticlib"),
         PathBuf::from,
     );
-    println!("cargo:rerun-if-changed={}", folder.join("libexports.a").display());
+    println!(
+        "cargo:rerun-if-changed={}",
+        folder.join("libexports.a").display()
+    );
     println!("cargo:rustc-link-search=native={}", folder.display());
     println!("cargo:rustc-link-lib=static=exports");
 }

@@ -1,12 +1,34 @@
 //! Safe calls into Njallavet's proved shuffler and replay checker.
 //!
-//! The archive behind them answers every input; what its C interface asks of a pointer (not null, aligned, no overlap of what is
-//! written) a Rust slice has by itself.
+//! The archive behind them answers every input, and what its C interface asks of a pointer a Rust slice has by itself, so no call of this
+//! crate has a condition. Stacks are slices, top first; an operation is two words in a buffer that the caller lends.
+//!
+//! ```
+//! use njallavet::{operations, shuffle, Limits, Spill};
+//!
+//! let (mut slots, mut words) = ([0; 64], [0; 256]);
+//! let spill = Spill { words: &mut slots, filled: 0, first: 0 };
+//! let limits = Limits { max_swap_depth: 3, max_dup_depth: 2 };
+//! let answer = shuffle(&[3, 2, 9], spill, &[3, 2, 2], limits, &mut words).done()?; // or what it is refused with, a `Refusal`
+//! for op in operations(&words[..2 * answer.ops]).flatten() {
+//!     println!("{op}"); // Dup(1), Swap(3), Pop
+//! }
+//! # use njallavet::Op;
+//! # let list: Vec<_> = operations(&words[..2 * answer.ops]).flatten().collect();
+//! # assert_eq!(list, [Op::Dup(1), Op::Swap(3), Op::Pop]);
+//! # Ok::<(), njallavet::Refusal>(())
+//! ```
 
+mod codes;
 mod ffi;
+mod state;
+
+pub use codes::{Fault, NoCode, Refusal};
+pub use state::State;
+use std::fmt;
 
 /// One operation of the machine.
-#[derive(Debug, Clone, Copy, PartialEq, Eq)]
+#[derive(Debug, Clone, Copy, PartialEq, Eq, Hash)]
 pub enum Op {
     Swap(u8),
     Dup(u8),
@@ -27,112 +49,155 @@ impl Op {
             _ => None,
         }
     }
+
+    /// Its record of two words: the kind and the argument.
+    pub fn to_words(self) -> [u32; 2] {
+        match self {
+            Op::Swap(depth) => [1, depth.into()],
+            Op::Dup(depth) => [2, depth.into()],
+            Op::Pop => [3, 0],
+            Op::Store(id) => [4, id],
+            Op::Load(id) => [5, id],
+        }
+    }
 }
 
-/// How deep a swap and a dup may reach.
+/// The driver's form: `Swap(3)`, `Dup(1)`, `Pop`, `store(5)`, `load(5)`.
+impl fmt::Display for Op {
+    fn fmt(&self, f: &mut fmt::Formatter<'_>) -> fmt::Result {
+        match self {
+            Op::Swap(depth) => write!(f, "Swap({depth})"),
+            Op::Dup(depth) => write!(f, "Dup({depth})"),
+            Op::Pop => write!(f, "Pop"),
+            Op::Store(id) => write!(f, "store({id})"),
+            Op::Load(id) => write!(f, "load({id})"),
+        }
+    }
+}
+
+/// How deep a swap and a dup may reach. The default is the machine's: SWAP16, and DUP16, which copies depth 15.
 #[derive(Debug, Clone, Copy, PartialEq, Eq)]
 pub struct Limits {
     pub max_swap_depth: u8,
     pub max_dup_depth: u8,
 }
 
-/// What a shuffle refuses with, by the names of document 01.
-#[derive(Debug, Clone, Copy, PartialEq, Eq)]
-#[repr(u32)]
-pub enum Refusal {
-    Limit = 1,
-    Start = 2,
-    Target = 3,
-    Filled = 4,
-    Slots = 5,
-    Missing = 6,
-    Full = 7,
-    Stuck = 8,
-    Ticks = 9,
-    Spill = 10,
-    Ops = 11,
-    Inside = 12,
-}
-
-impl Refusal {
-    const ALL: [Refusal; 12] = [
-        Refusal::Limit,
-        Refusal::Start,
-        Refusal::Target,
-        Refusal::Filled,
-        Refusal::Slots,
-        Refusal::Missing,
-        Refusal::Full,
-        Refusal::Stuck,
-        Refusal::Ticks,
-        Refusal::Spill,
-        Refusal::Ops,
-        Refusal::Inside,
-    ];
-
-    /// Document 01's number.
-    pub fn code(self) -> u32 {
-        self as u32
-    }
-
-    fn of(code: u32) -> Option<Refusal> {
-        Refusal::ALL.into_iter().find(|r| r.code() == code)
+impl Default for Limits {
+    fn default() -> Limits {
+        Limits {
+            max_swap_depth: 16,
+            max_dup_depth: 15,
+        }
     }
 }
 
-/// What a shuffle answers. The counts and the stack hold for a refusal too: everything before the refused operation stands.
+/// What a shuffle answers. The counts and the stack hold for a refusal of 6 to 12 too: everything before the refused operation stands.
 #[derive(Debug, Clone, PartialEq, Eq)]
+#[must_use = "a shuffle may be refused"]
 pub struct Answer {
     /// Nothing where the shuffle is done.
     pub refusal: Option<Refusal>,
     pub shrink_ticks: u32,
     pub grow_ticks: u32,
-    /// Operations written to the low end of the buffer.
+    /// Operations written by this call.
     pub ops: usize,
-    /// Slots filled.
+    /// Slots filled after it, those that were filled before it too.
     pub slots: usize,
     /// The end stack, top first.
     pub stack: Vec<u32>,
 }
 
-/// The verdict of the checker. Its code is 0 for a list that is accepted.
+impl Answer {
+    /// The answer of a shuffle that is done, or what it was refused with.
+    pub fn done(self) -> Result<Answer, Refusal> {
+        match self.refusal {
+            None => Ok(self),
+            Some(refusal) => Err(refusal),
+        }
+    }
+
+    fn of(answer: &ffi::Answer) -> Answer {
+        Answer {
+            refusal: known(answer.code),
+            shrink_ticks: answer.shrink_ticks,
+            grow_ticks: answer.grow_ticks,
+            ops: answer.ops,
+            slots: answer.slots,
+            stack: answer.stack.values().to_vec(),
+        }
+    }
+}
+
+/// The verdict of the checker on a list.
 #[derive(Debug, Clone, Copy, PartialEq, Eq)]
+#[must_use = "a list may be at fault"]
 pub struct Verdict {
-    pub code: u32,
+    /// Nothing where the list is accepted.
+    pub fault: Option<Fault>,
+    /// Of the operation at fault; the number of operations where none is, 0 before any was looked at.
     pub index: usize,
+    /// Of the operations replayed.
     pub gas: u64,
+    /// Slots filled after them.
     pub filled: usize,
 }
 
+impl Verdict {
+    /// The verdict on a list that is accepted, or its first fault.
+    pub fn accepted(self) -> Result<Verdict, Fault> {
+        match self.fault {
+            None => Ok(self),
+            Some(fault) => Err(fault),
+        }
+    }
+}
+
+// 0 is no code. It is proved of the archive that no other number comes than those of the table; one that does is no success.
+fn known<C: TryFrom<u32, Error = NoCode>>(code: u32) -> Option<C> {
+    (code != 0)
+        .then(|| C::try_from(code).unwrap_or_else(|other| panic!("the archive answered {other}")))
+}
+
 /// The stored values: a buffer, how many of its words are filled, and the number of its first slot.
+#[derive(Debug)]
 pub struct Spill<'a> {
     pub words: &'a mut [u32],
     pub filled: usize,
     pub first: u32,
 }
 
-/// Turns the stack `start` into `target` (both top first). Operations are written to `ops` as words, stored values to the spill buffer.
-pub fn shuffle(start: &[u32], spill: Spill<'_>, target: &[u32], limits: Limits, ops: &mut [u32]) -> Answer {
-    let answer = ffi::shuffle(start, spill, target, limits, ops);
-    let raw = &answer.stack.stack_raw;
-    let height = usize::from(answer.stack.stack_len).min(raw.len());
-    Answer {
-        refusal: Refusal::of(answer.code),
-        shrink_ticks: answer.shrink_ticks,
-        grow_ticks: answer.grow_ticks,
-        ops: answer.ops,
-        slots: answer.slots,
-        stack: raw[raw.len() - height..].to_vec(),
+/// Turns the stack `start` into `target` (both top first). Operations are written to the low end of `ops` as words, stored values to the
+/// spill buffer after the filled ones; all other words stay as they are.
+pub fn shuffle(
+    start: &[u32],
+    spill: Spill<'_>,
+    target: &[u32],
+    limits: Limits,
+    ops: &mut [u32],
+) -> Answer {
+    Answer::of(&ffi::shuffle(start, spill, target, limits, ops))
+}
+
+/// Replays operation words, whoever wrote them, from `start`. Stores replayed before the verdict stay in the spill buffer.
+pub fn check(
+    start: &[u32],
+    spill: Spill<'_>,
+    target: &[u32],
+    limits: Limits,
+    ops: &[u32],
+) -> Verdict {
+    let verdict = ffi::check(start, spill, target, limits, ops);
+    Verdict {
+        fault: known(verdict.code),
+        index: verdict.index,
+        gas: verdict.gas,
+        filled: verdict.filled,
     }
 }
 
-/// Replays operation words, whoever wrote them, from `start`.
-pub fn check(start: &[u32], spill: Spill<'_>, target: &[u32], limits: Limits, ops: &[u32]) -> Verdict {
-    let verdict = ffi::check(start, spill, target, limits, ops);
-    Verdict { code: verdict.code, index: verdict.index, gas: verdict.gas, filled: verdict.filled }
-}
-
-/// The operations in the first words of a buffer.
+/// The operations in a buffer's words, two words each; nothing for two words that are none.
 pub fn operations(words: &[u32]) -> impl Iterator<Item = Option<Op>> + '_ {
-    words.chunks_exact(2).map(|record| Op::from_words(record[0], record[1]))
+    words
+        .chunks_exact(2)
+        .map(|record| Op::from_words(record[0], record[1]))
 }
