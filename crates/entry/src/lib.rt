@@ -2,12 +2,10 @@
 use operations::ScheduleConfig;
 use shuffler::Answer;
 use tracked_state::TrackedState;
-ghost use mathlib.Core.Path.{_≡_};
-ghost use Rattle.scope.specs.Once.{shuffleDue};
-ghost use Rattle.tracked_state.specs.Promises.{trackedOf};
-ghost use Rattle.shuffler.specs.Promises.{seenIn, lentState, stateDue};
+ghost use Rattle.shuffler.specs.Promises.{lentState};
+ghost use Rattle.entry.specs.Promises.{Entered};
 
-// The shuffle of the state, which it leaves as it stands after the run. Where codes 1 to 5 refuse, what the state keeps stays as it was lent.
+// The shuffle of the state, which it leaves as it stands after the run. Where codes 1 to 5 refuse, the state stays as it was lent, every word of it.
 pub fn run(
     state: &mut TrackedState,
     spill: &mut [u32],
@@ -16,8 +14,7 @@ pub fn run(
     ops: &mut [u32],
 ) -> Answer
     ensures { λ r.
-        ⌜ (seenIn r (now (spill .exit)) (now (ops .exit)) ≡ shuffleDue (lentState (now (state .entry)) (now (spill .entry)) (now (target .entry)) config (now (ops .entry))))
-        × (trackedOf (now (state .exit)) ≡ stateDue (lentState (now (state .entry)) (now (spill .entry)) (now (target .entry)) config (now (ops .entry)))) ⌝ }
+        ⌜ Entered (lentState (now (state .entry)) (now (spill .entry)) (now (target .entry)) config (now (ops .entry))) (now (state .entry)) (now (state .exit)) r (now (spill .exit)) (now (ops .exit)) ⌝ }
 {
     let r = shuffler::run(*state, spill, target, config, ops);
     *state = r.state;

@@ -24,7 +24,7 @@ use Rattle.shuffler.specs.Held.{Holding}
 use Rattle.shuffler.specs.Runs.{Tells}
 use Rattle.shuffler.specs.Entry.{Passes, begins}
 use Rattle.shuffler.specs.Performing.{holding}
-use Rattle.shuffler.specs.Promises.{seenIn, lentPlain, lentState, stateDue, Refuses}
+use Rattle.shuffler.specs.Promises.{seenIn, lentPlain, lentState, stateDue, KeptIfRefused, Refuses}
 use Rattle.shuffler.proofs.Entry.{entry-done, entry-refused, state-done}
 
 -- an empty answer
@@ -80,6 +80,9 @@ module _ (s : TrackedState) (spill target : List ℕ) (config : ScheduleConfig) 
   pub run-keeps : (code ≡ 0 → ⊥) → trackedOf s ≡ stateDue (lentState s spill target config words)
   unfolding stateDue trackedIn
   run-keeps ne = let e = lentState s spill target config words in sym (if-not (codeOf (jobLent e) (startLent e)) _ (trackedOf s) (λ z. ne (is ∙ z)))
+
+  pub run-goes : (after : TrackedState) → code ≡ 0 → KeptIfRefused (lentState s spill target config words) s after
+  run-goes after z = record { keeps = λ ne. absurd (ne (sym is ∙ z)) }
 
   module _ (raw′ spill′ words′ : List ℕ) (e : Ended) (z : code ≡ 0) (ok : code ≡ 0 → Passes (config .«max_swap_depth») (s .stack .«stack_len») (length target) (s .filled) (length spill) (s .first))
       (full : length (s .stack .«stack_raw») ≡ 1024)

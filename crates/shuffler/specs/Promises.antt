@@ -62,6 +62,10 @@ stateDue e =
     (record { stack = stackOf (r .stack); first = e .first; filled = length (r .spilled); written = e .written + length (r .ops) })
     (record { stack = e .stack; first = e .first; filled = e .filled; written = e .written })
 
+-- where codes 1 to 5 refuse, the state after a run is the one that was lent: every word of its array, and its counts
+pub record KeptIfRefused (e : Lent) (before after : TrackedState) : Type 0 where
+  pub keeps : (codeOf (jobLent e) (startLent e) ≡ 0 → ⊥) → after ≡ before
+
 -- an answer with a code, zero counts and an empty stack
 pub record Refuses (code : ℕ) (r : Answer) : Type 0 where
   pub is : r .code ≡ code

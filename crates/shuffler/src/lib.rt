@@ -9,7 +9,7 @@ ghost use Rattle.scope.specs.Shuffle.{jobCode};
 ghost use Rattle.scope.specs.Once.{shuffleDue};
 ghost use Rattle.tracked_state.specs.Promises.{trackedOf};
 ghost use Rattle.shuffler.specs.Entry.{Passes};
-ghost use Rattle.shuffler.specs.Promises.{seenIn, lentPlain, lentState, stateDue, Refuses};
+ghost use Rattle.shuffler.specs.Promises.{seenIn, lentPlain, lentState, stateDue, KeptIfRefused, Refuses};
 
 mod loops;
 mod perform;
@@ -150,7 +150,7 @@ pub fn shuffle(
 }
 
 // The shuffle of a tracked state, which comes back by value. The operations follow those that the state has written already; the answer
-// counts those of this run. Where codes 1 to 5 refuse, the state comes back as it was.
+// counts those of this run. Where codes 1 to 5 refuse, the state comes back as it was, every word of it.
 pub fn run(
     state: TrackedState,
     spill: &mut [u32],
@@ -160,6 +160,7 @@ pub fn run(
 ) -> Finished
     ensures { λ r. ⌜ seenIn (r .answer) (now (spill .exit)) (now (ops .exit)) ≡ shuffleDue (lentState state (now (spill .entry)) (now (target .entry)) config (now (ops .entry))) ⌝ }
     ensures { λ r. ⌜ trackedOf (r .state) ≡ stateDue (lentState state (now (spill .entry)) (now (target .entry)) config (now (ops .entry))) ⌝ }
+    ensures { λ r. ⌜ KeptIfRefused (lentState state (now (spill .entry)) (now (target .entry)) config (now (ops .entry))) state (r .state) ⌝ }
 {
     let mut stack = state.stack;
     let code = job_code(

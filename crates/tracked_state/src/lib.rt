@@ -15,6 +15,7 @@ ghost use Rattle.scope.specs.Tracked.{makingCode, madeWith, made, cloned, nextI
 ghost use Rattle.stack.specs.Promises.{stackIn, blank, laid};
 ghost use Rattle.tracked_state.specs.Promises.{numbersOf, arrayOf, trackedOf, StepsTo, SpillsTo, Makes, Clones, Holds, Joins};
 
+#[repr(C)]
 pub struct TrackedState {
     pub stack: EvmStack,
     pub first: u32,

@@ -49,7 +49,7 @@ use Rattle.tracked_state.specs.Promises.{trackedOf}
 use Rattle.tracked_state.proofs.TrackedState as T
 use Rattle.tracked_state.proofs.TrackedState.Laws as T′
 use Rattle.shuffler.specs.declared.Finished.{Finished}
-use Rattle.shuffler.specs.Promises.{seenIn, lentState, stateDue}
+use Rattle.shuffler.specs.Promises.{seenIn, lentState, stateDue, KeptIfRefused}
 use Rattle.shuffler.proofs.Answer as N
 use Rattle.shuffler.proofs.Answer.Laws as N′
 use Rattle.shuffler.proofs.Finished as D
@@ -122,17 +122,20 @@ module _ {M : Type 1} (𝓤 : URA M) (H : Heap 𝓤) (A : Atoms 𝓤) (W : Given
   abbrev Left : Finished → Type 0
   Left r = trackedOf (r .state) ≡ stateDue (lentState h (ps .now) (t .now) c (os .now))
 
+  abbrev Kept : Finished → Type 0
+  Kept r = KeptIfRefused (lentState h (ps .now) (t .now) c (os .now)) h (r .state)
+
   abbrev Lent : Fml
   Lent = owns (T.the-row ∷ MutSlice (named 0) κp u32 ∷ ShrSlice (named 1) κt u32 ∷ K.the-row ∷ MutSlice (named 2) κo u32 ∷ []) lent passed
 
   goes-core : ent 𝓤 (⋆ 𝓤 H A (toks ∷ ‵ Lent ∷ [])) (Core 𝓤 H A at-mem run .pre to-core)
   goes-core = qed W (toks ∷ ‵ Lent ∷ []) ∵ join ! $ frame ! $ done !
 
-  exits : (r : Finished) (ps′ os′ : List ℕ) → Is N.the-row (r .answer) (LL.vals N.the-type N′.the-laws (r .answer)) → Seen r ps′ os′ → Left r → length ps′ ≡ length (ps .now) → length os′ ≡ length (os .now)
+  exits : (r : Finished) (ps′ os′ : List ℕ) → Is N.the-row (r .answer) (LL.vals N.the-type N′.the-laws (r .answer)) → Seen r ps′ os′ → Left r → Kept r → length ps′ ≡ length (ps .now) → length os′ ≡ length (os .now)
       → ent 𝓤 (⋆ 𝓤 H A (‵ (fobs γ (T.the-row .coded .code (r .state))) ∷ ‵ (fbor κ (Body (mem T.the-row) b o γ)) ∷ ‵ (flft κ q) ∷ toks ∷ ‵ (finally u32 (ps .name) ps′) ∷ ‵ (finally u32 (os .name) os′) ∷ ‵ Own ∷ [])) (Post (LL.val N.the-type N′.the-laws (r .answer)))
-  exits r ps′ os′ is seen left lp lo =
+  exits r ps′ os′ is seen left kept lp lo =
       qed W (‵ (fobs γ (T.the-row .coded .code (r .state))) ∷ ‵ (fbor κ (Body (mem T.the-row) b o γ)) ∷ ‵ (flft κ q) ∷ toks ∷ ‵ (finally u32 (ps .name) ps′) ∷ ‵ (finally u32 (os .name) os′) ∷ ‵ Own ∷ []) ∵
-      suffices ! _ (ends-at 𝓤 H A f.ended stayed (f.clauses 𝓤 H A at-mem run) W (((κ, lfts), (q, (qp, (qt, (qo, tt)))), tt, x, at), tt) (LL.val N.the-type N′.the-laws (r .answer)) (r .answer) (r .state, (ps′, (tt, (tt, (os′, tt))))) (tt, (lp, (tt, (tt, (lo, tt)))))) $ says ! (seen, left) $
+      suffices ! _ (ends-at 𝓤 H A f.ended stayed (f.clauses 𝓤 H A at-mem run) W (((κ, lfts), (q, (qp, (qt, (qo, tt)))), tt, x, at), tt) (LL.val N.the-type N′.the-laws (r .answer)) (r .answer) (r .state, (ps′, (tt, (tt, (os′, tt))))) (tt, (lp, (tt, (tt, (lo, tt)))))) $ says ! (record { answer = seen; state = left; kept = kept }) $
       move ! (2 ∷ 3 ∷ []) $ join ! $ frame ! $
       -- [obs; the borrow; the last spill words; the last operations; what the target owns]
       nothing ! $ move ! (4 ∷ 0 ∷ []) $ fjoin ! $ owned ! K.the-row (Is K.the-row) (LL.makes K.the-type K′.the-plain 𝓤 H A) c _ c-is $ fjoin ! $ move ! (4 ∷ 0 ∷ []) $ fjoin ! $ move ! (3 ∷ 0 ∷ []) $ fjoin ! $
@@ -163,8 +166,8 @@ module _ {M : Type 1} (𝓤 : URA M) (H : Heap 𝓤) (A : Atoms 𝓤) (W : Given
         -- [what the callee asks; what the target owns; the state's cell; the open borrow; obs; auth; _11; …]
         calls-at ! fm (Core 𝓤 H A at-mem run) known to-core (and-then ! (load ! (from ! (stop !)) (look ! 14 refl)) (and-then ! (load ! (from ! (stop !)) (look ! 10 refl)) (and-then ! (load ! (from ! (stop !)) (look ! 22 refl)) (and-then ! (load ! (from ! (stop !)) (look ! 20 refl)) (and-then ! (load ! (from ! (stop !)) (look ! 6 refl)) (no-more !)))))) (λ v.
         use1 W (later (some (λ (r : Finished). (toks ⊛ ‵ (D.the-row .own r (v ∷ []))) ⊛ raw (ensured 𝓤 H A core.ended (core.clauses 𝓤 H A at-mem run) lfts lent tt r)))) (id⊢ 𝓤 _) $ await ! tt $ pick ! (λ r.
-        split ! $ move ! (1 ∷ []) $ use1 W (some (λ (zs : Last). ‵ (lasts core.ended lfts lent zs) ⊛ (raw (fact 𝓤 (Seen r (zs .1 .0) (zs .1 .1 .1 .1 .0))) ⊛ raw (fact 𝓤 (Left r))))) (id⊢ 𝓤 _) $ pick ! (λ zs.
-        split ! $ move ! (1 ∷ []) $ split ! $ heard ! (Seen r (zs .1 .0) (zs .1 .1 .1 .1 .0)) (λ seen. heard ! (Left r) (λ left.
+        split ! $ move ! (1 ∷ []) $ use1 W (some (λ (zs : Last). ‵ (lasts core.ended lfts lent zs) ⊛ (raw (fact 𝓤 (Seen r (zs .1 .0) (zs .1 .1 .1 .1 .0))) ⊛ (raw (fact 𝓤 (Left r)) ⊛ raw (fact 𝓤 (Kept r)))))) (id⊢ 𝓤 _) $ pick ! (λ zs.
+        split ! $ move ! (1 ∷ []) $ split ! $ heard ! (Seen r (zs .1 .0) (zs .1 .1 .1 .1 .0)) (λ seen. split ! $ heard ! (Left r) (λ left. heard ! (Kept r) (λ kept.
         fsplit ! $ drop ! $ fsplit ! $ fsplit ! $ move ! (1 ∷ []) $ feqL ! (λ lp. move ! (1 ∷ []) $ fsplit ! $ drop ! $ fsplit ! $ drop ! $ fsplit ! $ fsplit ! $ move ! (1 ∷ []) $ feqL ! (λ lo.
         -- [the last operations; …; the last spill words; the tokens and the result; what the target owns; the state's cell; the open borrow; obs; auth; _11; …]
         move ! (3 ∷ []) $ split ! $ move ! (1 ∷ []) $ peeks ! D.the-row (Is D.the-row) (shows 𝓤 H A D.the-row) r (v ∷ []) (λ is.
@@ -177,7 +180,7 @@ module _ {M : Type 1} (𝓤 : URA M) (H : Heap 𝓤) (A : Atoms 𝓤) (W : Given
         returns ! (look ! 30 refl) $ forget ! 8 refl $ forget ! 10 refl $ forget ! 12 refl $ forget ! 14 refl $ forget ! 16 refl $ forget ! 18 refl $ forget ! 20 refl $ forget ! 22 refl $ forget ! 24 refl $ forget ! 26 refl $ forget ! 28 refl $ forget ! 30 refl $
         move ! (30 ∷ 31 ∷ []) $ free1 ! $ move ! (28 ∷ 29 ∷ []) $ free1 ! $ move ! (26 ∷ 27 ∷ []) $ free1 ! $ move ! (24 ∷ 25 ∷ []) $ free1 ! $ move ! (22 ∷ 23 ∷ []) $ free1 ! $ move ! (20 ∷ 21 ∷ []) $ free1 ! $
         move ! (18 ∷ 19 ∷ []) $ free1 ! $ move ! (16 ∷ 17 ∷ []) $ free1 ! $ move ! (14 ∷ 15 ∷ []) $ free1 ! $ move ! (12 ∷ 13 ∷ []) $ free1 ! $ move ! (10 ∷ 11 ∷ []) $ free1 ! $ move ! (8 ∷ 9 ∷ []) $ free1 ! $ free0 ! $
-        keep ! (0 ∷ 1 ∷ 2 ∷ 3 ∷ 6 ∷ 4 ∷ 7 ∷ []) $ by ! (exits r (zs .1 .0) (zs .1 .1 .1 .1 .0) (LL.owed D.the-type D′.the-laws r _ is .0) seen left lp lo)))))))))))))))))))))))
+        keep ! (0 ∷ 1 ∷ 2 ∷ 3 ∷ 6 ∷ 4 ∷ 7 ∷ []) $ by ! (exits r (zs .1 .0) (zs .1 .1 .1 .1 .0) (LL.owed D.the-type D′.the-laws r _ is .0) seen left kept lp lo))))))))))))))))))))))))
 
 module _ {M : Type 1} (𝓤 : URA M) (H : Heap 𝓤) (A : Atoms 𝓤) (W : Given 𝓤 H A) (at-mem : Memory → SProp 𝓤) (run : Routine → Fun 𝓤) where
   run-walks : (C : Calls 𝓤 H) (Λ : Loops 𝓤 H) → FmC 𝓤 H (W .laws) C → Triple 𝓤 (C #shuffler·run) (Core 𝓤 H A at-mem run) → Walks 𝓤 H A f.ended stayed (WpFn 𝓤 H C Λ code.function) (f.clauses 𝓤 H A at-mem run)

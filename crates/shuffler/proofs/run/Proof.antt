@@ -1,7 +1,7 @@
 -- The same as shuffle, from the stack of the state; the state after it is what the run left held.
 use borrow.Author.Needs.{needs}
-use Rattle.shuffler.proofs.Entries.{run-refused, run-keeps, run-done, run-leaves}
-use mathlib.Core.Path.{_≡_}
+use Rattle.shuffler.proofs.Entries.{run-refused, run-keeps, run-done, run-leaves, run-goes}
+use mathlib.Core.Path.{_≡_, refl}
 use lib.ListN.{length}
 use Rattle.shuffler.proofs.run.Statement.{statement}
 use Rattle.shuffler.proofs.run.Tie as tie
@@ -11,7 +11,7 @@ full : (c : tie.After-job-code) → length (c .before .before .before .before .b
 full c = search needs
 
 returns : tie.Need-returns
-returns c = (search (run-refused, needs), search (run-keeps, needs))
+returns c = (search (run-refused, needs), (search (run-keeps, needs), record { keeps = λ _. refl }))
 
 returns-2 : tie.Need-returns-2
 returns-2 c =
@@ -20,7 +20,10 @@ returns-2 c =
     let code = d .before .job-code .ensures in
     let config = d .before .before .before .before .before .before .args .config in (
       run-done _ _ _ config _ _ (code .0) _ _ _ _ (d .if1 .left) (code .1) (full (d .before)) (b .run-from .ensures) _ (c .less .ensures),
-      run-leaves _ _ _ config _ _ (code .0) _ _ _ _ (d .if1 .left) (code .1) (full (d .before)) (b .run-from .ensures),
+      (
+        run-leaves _ _ _ config _ _ (code .0) _ _ _ _ (d .if1 .left) (code .1) (full (d .before)) (b .run-from .ensures),
+        run-goes _ _ _ config _ _ (code .0) _ (d .if1 .left),
+      ),
     )
 
 pub run-spec : {M : Type 1} → statement M
