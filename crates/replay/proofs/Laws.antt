@@ -9,7 +9,7 @@ use lib.ListN.{length, getD, drop, take, take-append-drop, drop-of-length-le}
 use lib.Seq.{drop-cons, drop-drop, length-take-le}
 use lib.Dec.{eqb, leb, ltb}
 use borrow.Author.Tests.{ltb-false, le-leb, lt-leb, lt-ltb, le-ltb, eq-eqb, ne-eqb}
-use Rattle.scope.proofs.Branches.{tested}
+use Rattle.scope.proofs.JobCodes.{Passes, passes}
 use Rattle.scope.specs.Words.{if_then_else_, ifZero, sameList}
 use Rattle.scope.specs.Machine.{over}
 use Rattle.scope.specs.Rules.{Job}
@@ -25,51 +25,13 @@ use Rattle.replay.specs.declared.Turn.{Turn}
 use Rattle.replay.specs.declared.Verdict.{Verdict as Answer}
 use Rattle.replay.specs.Promises.{answered, seen, lentTo, replayDue, Fits, Turned, OnSlots}
 
--- ---- codes 1 to 5
-
-module _ (S height target filled slots first : ℕ) where
-  pub job-limit : S ≡ 0 → 1 ≡ jobCode S height target filled slots first
-  job-limit z = rw (eq-eqb S 0 z)
-
-  module _ (a : S ≡ 0 → ⊥) where
-    pub job-start : 1024 < height → 2 ≡ jobCode S height target filled slots first
-    job-start h = rw (ne-eqb S 0 a, lt-ltb 1024 height h)
-
-    module _ (b : height ≤ 1024) where
-      pub job-target : 1024 < target → 3 ≡ jobCode S height target filled slots first
-      job-target h = rw (ne-eqb S 0 a, le-ltb 1024 height b, lt-ltb 1024 target h)
-
-      module _ (c : target ≤ 1024) where
-        pub job-filled : slots < filled → 4 ≡ jobCode S height target filled slots first
-        job-filled h = rw (ne-eqb S 0 a, le-ltb 1024 height b, le-ltb 1024 target c, lt-ltb slots filled h)
-
-        module _ (d : filled ≤ slots) where
-          pub job-slots : 4294967295 - first < slots → 5 ≡ jobCode S height target filled slots first
-          job-slots h =
-              rw (ne-eqb S 0 a, le-ltb 1024 height b, le-ltb 1024 target c, le-ltb slots filled d, lt-ltb 4294967295 (first + slots) (omega arith))
-
-          pub job-fine : first < 4294967296 → slots ≤ 4294967295 - first → 0 ≡ jobCode S height target filled slots first
-          job-fine f h =
-              rw (ne-eqb S 0 a, le-ltb 1024 height b, le-ltb 1024 target c, le-ltb slots filled d, le-ltb 4294967295 (first + slots) (omega arith))
-
-pub ruleset job-codes = (job-limit, job-start, job-target, job-filled, job-slots, job-fine)
-
--- what a code of 0 shows
-pub job-bounds : (S height target filled slots first : ℕ) → jobCode S height target filled slots first ≡ 0
-    → (height ≤ 1024) × (filled ≤ slots) × (first + slots ≤ 4294967295)
-job-bounds S height target filled slots first e =
-    let t₁ = tested (eqb S 0) 0 _ e in
-    let t₂ = tested (ltb 1024 height) 1 _ (t₁ .1) in
-    let t₃ = tested (ltb 1024 target) 2 _ (t₂ .1) in
-    let t₄ = tested (ltb slots filled) 3 _ (t₃ .1) in
-    let t₅ = tested (ltb 4294967295 (first + slots)) 4 _ (t₄ .1) in
-    (ltb-false 1024 height (t₂ .0), ltb-false slots filled (t₄ .0), ltb-false 4294967295 (first + slots) (t₅ .0))
+-- ---- what a code of 0 shows
 
 pub job-inside : (S height target filled slots first code : ℕ) → code ≡ jobCode S height target filled slots first → code ≡ 0 → filled ≤ slots
-job-inside S height target filled slots first code is z = job-bounds S height target filled slots first (sym is ∙ z) .1
+job-inside S height target filled slots first code is z = passes S height target filled slots first (sym is ∙ z) .stored
 
 pub job-numbers : (S height target filled slots first code : ℕ) → code ≡ jobCode S height target filled slots first → code ≡ 0 → first + slots ≤ 4294967295
-job-numbers S height target filled slots first code is z = job-bounds S height target filled slots first (sym is ∙ z) .2
+job-numbers S height target filled slots first code is z = passes S height target filled slots first (sym is ∙ z) .numbers
 
 -- ---- the loop
 
@@ -173,17 +135,17 @@ module _ (start spill target words : List ℕ) (filled first S D : ℕ) where
         go (suc r) q = rw (← is, ← q)
 
     module _ (z : code ≡ 0) where
-      bounds : (length start ≤ 1024) × (filled ≤ length spill) × (first + length spill ≤ 4294967295)
-      bounds = job-bounds S (length start) (length target) filled (length spill) first (sym is ∙ z)
+      bounds : Passes S (length start) (length target) filled (length spill) first
+      bounds = passes S (length start) (length target) filled (length spill) first (sym is ∙ z)
 
       pub check-odd : (v : Answer) → v ≡ answered 30 0 0 filled → (length words % 2 ≡ 0 → ⊥) → seen v spill ≡ checkDue lent
       unfolding checkDue replay
-      check-odd v u ne = rw (← is, z, ne-eqb (length words % 2) 0 ne) (seen-is lent v 30 0 0 filled spill u (bounds .1) refl)
+      check-odd v u ne = rw (← is, z, ne-eqb (length words % 2) 0 ne) (seen-is lent v 30 0 0 filled spill u (bounds .stored) refl)
 
       -- the start as it is laid into the array
       pub check-run : (made len : ℕ) (raw : List ℕ) (v : SeenVerdict) → length words % 2 ≡ 0 → Leaves (madeFrom start) made len blank raw
           → v ≡ replayDue (lentTo (fifo raw len) spill filled first target S D words) → v ≡ checkDue lent
       unfolding checkDue replay replayDue madeFrom
       check-run made len raw v w l q =
-          let values : fifo raw len ≡ start = ap (λ (x : Left). x .stack .values) (rw (le-ltb 1024 (length start) (bounds .0)) at (l .answer)) in
+          let values : fifo raw len ≡ start = ap (λ (x : Left). x .stack .values) (rw (le-ltb 1024 (length start) (bounds .start)) at (l .answer)) in
           q ∙ rw (values, ← is, z, w)

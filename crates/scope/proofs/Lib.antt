@@ -1,5 +1,6 @@
 pub mod Cases
 pub mod Branches
+pub mod JobCodes
 pub mod Walks
 pub mod Counts
 pub mod Exact

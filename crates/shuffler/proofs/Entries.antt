@@ -11,6 +11,7 @@ use Rattle.scope.specs.Stack.{fifo, kept, Left, madeFrom}
 use Rattle.scope.specs.Shuffle.{jobCode, codeOf, started, runFrom, shuffle}
 use Rattle.scope.specs.Tracked.{Tracked}
 use Rattle.scope.specs.Once.{Lent, jobLent, startLent, Seen, shuffleDue}
+use Rattle.scope.proofs.JobCodes.{Passes, passes}
 use Rattle.scope.proofs.Loops.{if-not}
 use Rattle.operations.specs.declared.ScheduleConfig.{ScheduleConfig}
 use Rattle.stack.specs.declared.EvmStack.{EvmStack}
@@ -22,7 +23,7 @@ use Rattle.shuffler.specs.declared.Answer.{Answer}
 use Rattle.shuffler.specs.declared.Ended.{Ended}
 use Rattle.shuffler.specs.Held.{Holding}
 use Rattle.shuffler.specs.Runs.{Tells}
-use Rattle.shuffler.specs.Entry.{Passes, begins}
+use Rattle.shuffler.specs.Entry.{begins}
 use Rattle.shuffler.specs.Performing.{holding}
 use Rattle.shuffler.specs.Promises.{seenIn, lentPlain, lentState, stateDue, KeptIfRefused, Refuses}
 use Rattle.shuffler.proofs.Entry.{entry-done, entry-refused, state-done}
@@ -47,7 +48,6 @@ module _ (start spill : List ℕ) (filled first : ℕ) (target : List ℕ) (conf
   shuffle-refused r ne f = seen-refused (lentPlain start spill filled first target config words) code r is ne f
 
   pub shuffle-done : (raw : List ℕ) (made len : ℕ) (raw′ spill′ words′ : List ℕ) (e : Ended) → code ≡ 0
-      → (code ≡ 0 → Passes (config .«max_swap_depth») (length start) (length target) filled (length spill) first)
       → Leaves (madeFrom start) made len blank raw
       → Tells target (config .«max_swap_depth») (config .«max_dup_depth»)
       (holding raw (record { numbers = record { len = len; first = first; filled = filled; written = 0 }; complete = 0 }) words spill)
@@ -64,9 +64,9 @@ module _ (start spill : List ℕ) (filled first : ℕ) (target : List ℕ) (conf
       spill′ words′
       ≡ shuffleDue (lentPlain start spill filled first target config words)
   unfolding trackedIn
-  shuffle-done raw made len raw′ spill′ words′ e z ok l t =
+  shuffle-done raw made len raw′ spill′ words′ e z l t =
       let lent = lentPlain start spill filled first target config words in
-      let pass = ok z in
+      let pass = passes (config .«max_swap_depth») (length start) (length target) filled (length spill) first (sym is ∙ z) in
       let n : e .progress .numbers .written - 0 ≡ e .progress .numbers .written = omega arith in
       let q = entry-done lent pass refl (sym is ∙ z) (e .code) (e .«shrink_ticks») (e .«grow_ticks») (holding raw′ (e .progress) words′ spill′) (rw (made-is start raw made len (pass .start) l) at t) in
       rw n at q
@@ -84,16 +84,19 @@ module _ (s : TrackedState) (spill target : List ℕ) (config : ScheduleConfig) 
   pub run-goes : (after : TrackedState) → code ≡ 0 → KeptIfRefused (lentState s spill target config words) s after
   run-goes after z = record { keeps = λ ne. absurd (ne (sym is ∙ z)) }
 
-  module _ (raw′ spill′ words′ : List ℕ) (e : Ended) (z : code ≡ 0) (ok : code ≡ 0 → Passes (config .«max_swap_depth») (s .stack .«stack_len») (length target) (s .filled) (length spill) (s .first))
+  module _ (raw′ spill′ words′ : List ℕ) (e : Ended) (z : code ≡ 0)
       (full : length (s .stack .«stack_raw») ≡ 1024)
       (t : Tells target (config .«max_swap_depth») (config .«max_dup_depth»)
       (holding (s .stack .«stack_raw») (record { numbers = record { len = s .stack .«stack_len»; first = s .first; filled = s .filled; written = s .written }; complete = 0 }) words spill)
       (e .code) (e .«shrink_ticks») (e .«grow_ticks») (holding raw′ (e .progress) words′ spill′) runFrom) where
+    ok : Passes (config .«max_swap_depth») (s .stack .«stack_len») (length target) (s .filled) (length spill) (s .first)
+    ok = passes (config .«max_swap_depth») (s .stack .«stack_len») (length target) (s .filled) (length spill) (s .first) (sym is ∙ z)
+
     -- a stack as high as it says
     stands : stackIn (s .stack) ≡ stackOf (fifo (s .stack .«stack_raw») (s .stack .«stack_len»))
     unfolding fifo
     stands =
-        let n : length (drop (length (s .stack .«stack_raw») - s .stack .«stack_len») (s .stack .«stack_raw»)) ≡ s .stack .«stack_len» = simp length-drop (omega (arith, ok z .start)) in
+        let n : length (drop (length (s .stack .«stack_raw») - s .stack .«stack_len») (s .stack .«stack_raw»)) ≡ s .stack .«stack_len» = simp length-drop (omega (arith, ok .start)) in
         rw n
 
     pub run-done : (n : ℕ) → n ≡ e .progress .numbers .written - s .written
@@ -110,11 +113,11 @@ module _ (s : TrackedState) (spill target : List ℕ) (config : ScheduleConfig) 
         ≡ shuffleDue (lentState s spill target config words)
     unfolding trackedIn
     run-done n less =
-        rw less (entry-done (lentState s spill target config words) (ok z) stands (sym is ∙ z) (e .code) (e .«shrink_ticks») (e .«grow_ticks») (holding raw′ (e .progress) words′ spill′) t)
+        rw less (entry-done (lentState s spill target config words) ok stands (sym is ∙ z) (e .code) (e .«shrink_ticks») (e .«grow_ticks») (holding raw′ (e .progress) words′ spill′) t)
 
     pub run-leaves : trackedIn raw′ (e .progress .numbers) ≡ stateDue (lentState s spill target config words)
     unfolding stateDue trackedIn
     run-leaves =
         let lent = lentState s spill target config words in
         let o : codeOf (jobLent lent) (startLent lent) ≡ 0 = sym is ∙ z in
-        rw o (state-done lent (ok z) stands o (e .code) (e .«shrink_ticks») (e .«grow_ticks») (holding raw′ (e .progress) words′ spill′) t)
+        rw o (state-done lent ok stands o (e .code) (e .«shrink_ticks») (e .«grow_ticks») (holding raw′ (e .progress) words′ spill′) t)

@@ -1,10 +1,9 @@
--- Codes 1 to 5 by their tests, and the two ends of an entry: refused before the run, or the run's own end.
+-- The two ends of an entry: refused before the run, or the run's own end.
 use Prim.Native.Nat.{ℕ, zero, suc, _+_, _-_, _*_, _<_, _≤_}
 use native.Mathlib.Omega.{arith}
 use mathlib.Core.Path.{_≡_, refl, sym, ap, _∙_}
 use mathlib.Core.Bool.{Bool, true, false}
 use mathlib.Core.List.{List, [], _∷_, _++_}
-use borrow.Author.Tests.{le-ltb, lt-ltb, eq-eqb, ne-eqb}
 use lib.ListN.{length, take, drop, length-take, take-append-drop}
 use lib.Seq.{length-take-le}
 use Rattle.scope.specs.Words.{ifZero, Stack, stackOf}
@@ -13,44 +12,11 @@ use Rattle.scope.specs.Rules.{Job, State}
 use Rattle.scope.specs.Shuffle.{jobCode, codeOf, result, started, runFrom, shuffle}
 use Rattle.scope.specs.Tracked.{Tracked}
 use Rattle.scope.specs.Once.{Lent, jobLent, startLent, Seen, seenOf, shuffleDue}
+use Rattle.scope.proofs.JobCodes.{Passes}
 use Rattle.scope.proofs.Loops.{if-zero, if-not}
 use Rattle.shuffler.specs.Held.{Holding, Held}
 use Rattle.shuffler.specs.Runs.{About, Told, Tells}
-use Rattle.shuffler.specs.Entry.{Passes, begins}
-
--- ---- codes 1 to 5
-module _ (S height target filled slots first : ℕ) where
-  abbrev code : ℕ
-  code = jobCode S height target filled slots first
-
-  pub code-1 : S ≡ 0 → 1 ≡ code
-  code-1 a = rw (eq-eqb S 0 a)
-
-  module _ (a : S ≡ 0 → ⊥) where
-    pub code-2 : 1024 < height → 2 ≡ code
-    code-2 b = rw (ne-eqb S 0 a, lt-ltb 1024 height b)
-
-    module _ (b : height ≤ 1024) where
-      pub code-3 : 1024 < target → 3 ≡ code
-      code-3 c = rw (ne-eqb S 0 a, le-ltb 1024 height b, lt-ltb 1024 target c)
-
-      module _ (c : target ≤ 1024) where
-        pub code-4 : slots < filled → 4 ≡ code
-        code-4 d = rw (ne-eqb S 0 a, le-ltb 1024 height b, le-ltb 1024 target c, lt-ltb slots filled d)
-
-        module _ (d : filled ≤ slots) where
-          pub code-5 : first < 4294967296 → 4294967295 - first < slots → 5 ≡ code
-          code-5 f e = rw (ne-eqb S 0 a, le-ltb 1024 height b, le-ltb 1024 target c, le-ltb slots filled d, lt-ltb 4294967295 (first + slots) (omega arith))
-
-          pub code-0 : first < 4294967296 → slots ≤ 4294967295 - first → 0 ≡ code
-          code-0 f e = rw (ne-eqb S 0 a, le-ltb 1024 height b, le-ltb 1024 target c, le-ltb slots filled d, le-ltb 4294967295 (first + slots) (omega arith))
-
-          pub code-passes : first < 4294967296 → slots ≤ 4294967295 - first → Passes S height target filled slots first
-          code-passes f e = record { swaps = omega arith; start = b; goal = c; stored = d; numbers = omega arith }
-
--- what a refusal says of passing
-pub not-0 : (r : ℕ) (A : Type 0) → suc r ≡ 0 → A
-not-0 r A e = absurd (omega arith)
+use Rattle.shuffler.specs.Entry.{begins}
 
 -- a tracked stack by its fields
 tracked-is : (t : Tracked) (s : Stack) (first filled written : ℕ) → t .stack ≡ s → t .first ≡ first → t .filled ≡ filled → t .written ≡ written

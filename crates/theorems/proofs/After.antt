@@ -8,7 +8,6 @@ use mathlib.Core.List.{List, [], _∷_, _++_, append-nil, append-assoc}
 use lib.ListN.{length, take, drop, length-append, length-drop, length-take}
 use lib.Seq.{take-at, drop-append-seam, take-all, length-take-le}
 use lib.Dec.{eqb, leb, ltb}
-use borrow.Author.Tests.{ltb-false}
 use Rattle.scope.specs.declared.Op.{Op}
 use Rattle.scope.specs.declared.Op.the-variants.{Swap, Dup, Pop, Store, Load}
 use Rattle.scope.specs.Words.{if_then_else_, ifZero, sameList}
@@ -19,7 +18,7 @@ use Rattle.scope.specs.Replay.{Verdict, verdict, decoded, opFault, fault, stack
 use Rattle.scope.specs.Legal.{Legal, swap, dup, pop, store, load, Runs, stop, next}
 use Rattle.scope.specs.Cases.{within}
 use Rattle.scope.specs.Once.{Lent, jobLent, startLent, Seen, shuffleDue, SeenVerdict, seenVerdict, checkDue}
-use Rattle.scope.proofs.Branches.{tested}
+use Rattle.scope.proofs.JobCodes.{passes}
 use Rattle.scope.proofs.Exact.{Stated, even-words, job-exact, same-self}
 use Rattle.scope.proofs.Success.{shuffle-runs, shuffle-verdict, shuffle-ends}
 use Rattle.operations.specs.declared.ScheduleConfig.{ScheduleConfig}
@@ -90,12 +89,7 @@ over-length new lent h = simp (length-append, length-drop) (omega arith)
 -- ---- the checker after a shuffle
 
 filled-fits : (j : Job) (b : Start) → codeOf j b ≡ 0 → b .filled ≤ j .slots
-filled-fits j b e =
-    let p = tested (eqb (j .S) 0) 0 _ e in
-    let q = tested (ltb 1024 (b .stack .height)) 1 _ (p .1) in
-    let r = tested (ltb 1024 (length (j .T))) 2 _ (q .1) in
-    let s = tested (ltb (j .slots) (b .filled)) 3 _ (r .1) in
-    ltb-false (j .slots) (b .filled) (s .0)
+filled-fits j b e = passes (j .S) (b .stack .height) (length (j .T)) (b .filled) (j .slots) (j .first) e .stored
 
 refused : (j : Job) (b : Start) (r : ℕ) → codeOf j b ≡ suc r → shuffle j b .code ≡ suc r
 unfolding shuffle
@@ -144,9 +138,9 @@ module _ (e : Lent) (h : Stated (startLent e)) (w : e .written ≡ 0) where
       ∙ subst (λ (k : ℕ). take (2 * length (r .ops)) (drop (2 * k) (overFrom (2 * k) (wordsOf (r .ops)) (e .words))) ≡ wordsOf (r .ops)) (sym w) (these (r .ops) (e .words)) in
       rw (q, t)
 
-  passes : codeOf j b ≡ 0 → checkDue after ≡ confirmDue e
+  ran : codeOf j b ≡ 0 → checkDue after ≡ confirmDue e
   unfolding checkDue confirmDue
-  passes z =
+  ran z =
       let r = shuffle j b in
       let f = filled-fits j b z in
       let n : length (b .spilled) ≡ e .filled = length-take-le (e .filled) (e .spill) f in
@@ -169,7 +163,7 @@ module _ (e : Lent) (h : Stated (startLent e)) (w : e .written ≡ 0) where
   after-shuffle o p = ap checkDue (lent-after o p) ∙ go (codeOf j b) refl
     where
       go : (r : ℕ) → codeOf j b ≡ r → checkDue after ≡ confirmDue e
-      go zero z = passes z
+      go zero z = ran z
       go (suc r) z = refuses r z
 
 -- the checker leaves the spill words as the shuffle leaves them

@@ -1,5 +1,5 @@
 -- Each return by the test that it fails.
-use Rattle.replay.proofs.Laws.{job-codes}
+use Rattle.scope.proofs.JobCodes.{job-codes}
 use borrow.Author.Needs.{needs}
 use Rattle.replay.proofs.job_code.Statement.{statement}
 use Rattle.replay.proofs.job_code.Tie as tie

@@ -19,10 +19,10 @@ returns-2 c =
     let d = b .before .before .before .before in
     let code = d .before .job-code .ensures in
     let config = d .before .before .before .before .before .before .args .config in (
-      run-done _ _ _ config _ _ (code .0) _ _ _ _ (d .if1 .left) (code .1) (full (d .before)) (b .run-from .ensures) _ (c .less .ensures),
+      run-done _ _ _ config _ _ code _ _ _ _ (d .if1 .left) (full (d .before)) (b .run-from .ensures) _ (c .less .ensures),
       (
-        run-leaves _ _ _ config _ _ (code .0) _ _ _ _ (d .if1 .left) (code .1) (full (d .before)) (b .run-from .ensures),
-        run-goes _ _ _ config _ _ (code .0) _ (d .if1 .left),
+        run-leaves _ _ _ config _ _ code _ _ _ _ (d .if1 .left) (full (d .before)) (b .run-from .ensures),
+        run-goes _ _ _ config _ _ code _ (d .if1 .left),
       ),
     )
 
