@@ -2,18 +2,19 @@
 use Prim.Native.Nat.{ℕ, zero, suc, _+_, _-_, _*_, _≤_, _<_}
 use native.Mathlib.Omega.{arith}
 use mathlib.Core.Path.{_≡_, refl, sym, ap, _∙_, subst}
+use mathlib.Core.Logic.{_≢_}
 use mathlib.Core.List.{List, [], _∷_, _++_, append-assoc}
 use lib.ListN.{length, take, drop, take-append-drop}
 use lib.Seq.{take-at, drop-append-seam}
 use Rattle.scope.specs.declared.Op.{Op}
 use Rattle.scope.specs.declared.Op.the-variants.{Swap, Dup, Pop, Store, Load}
 use Rattle.scope.specs.Words.{ifZero, Stack, stackOf}
-use Rattle.scope.specs.Machine.{recordWords, wordsOf, over, overFrom}
+use Rattle.scope.specs.Machine.{recordWords, kind, argument, wordsOf, over, overFrom}
 use Rattle.scope.specs.Rules.{Job}
 use Rattle.scope.specs.Shuffle.{Start, codeOf, Result, shuffle}
 use Rattle.scope.specs.Replay.{Verdict, replay}
-use Rattle.scope.specs.Legal.{Legal, swap, dup, pop, store, load, Runs, stop, next}
-use Rattle.scope.specs.Evm.{Instr, POP, DUP, SWAP, Does, Codes, swap as swap-code, dup as dup-code, pop as pop-code}
+use Rattle.scope.specs.Legal.{Legal, swap, dup, pop, store, load, Runs, stop, next, Fault, unknown, swap-none, swap-far, swap-below, dup-far, dup-below, dup-high, load-high, pop-empty, store-empty, store-other, store-full, load-under, load-over}
+use Rattle.scope.specs.Evm.{Instr, POP, DUP, SWAP, Does, Halts, underflow, overflow, Codes, swap as swap-code, dup as dup-code, pop as pop-code}
 use Rattle.scope.specs.Once.{Lent, jobLent, startLent, Seen, shuffleDue, SeenVerdict, checkDue}
 use Rattle.scope.proofs.Exact.{even-words, words-once}
 use Rattle.scope.proofs.OnEvm.{step-does}
@@ -121,3 +122,37 @@ on-evm j (dup x a b m h) s d t t′ = let c = dup-code (length a) (omega arith) 
 on-evm j (pop x l m) s d t t′ = instruction POP pop-code (step-does j pop-code (pop x l m) t t′ .0)
 on-evm j (store x l m h) s d t t′ = stores (j .first + length m)
 on-evm j (load x l a b) s d t t′ = loads (j .first + length a)
+
+-- an instruction is a Swap's, a Dup's or a Pop's
+not-of-the-stack : {o : Op} {i : Instr} → Codes o i → 4 ≤ kind o → ⊥
+not-of-the-stack (swap-code x y z) h = omega arith
+not-of-the-stack (dup-code x y) h = omega arith
+not-of-the-stack pop-code h = omega arith
+
+-- ---- where a record is at fault for the stack's sake, the EVM halts
+
+module _ (j : Job) (l : List ℕ) (m : ℕ) where
+  -- by the instruction, then by the fault; a record of another kind, and another code, is no case
+  pub fault-halts : {k a c : ℕ} → Fault j l m k a c → 33 ≤ c → c ≢ 34 → (o : Op) (i : Instr) → kind o ≡ k → argument o ≡ a → Codes o i → Halts i l
+  fault-halts (unknown k a f) h n o i p q d = absurd (f o p q)
+  fault-halts swap-none h n o i p q d = absurd (omega arith)
+  fault-halts (swap-far k f) h n o i p q d = absurd (omega arith)
+  fault-halts (dup-far k f) h n o i p q d = absurd (n refl)
+  fault-halts (swap-below k f g t) h n o i p q (swap-code x y z) = underflow (omega arith)
+  fault-halts (swap-below k f g t) h n o i p q (dup-code x y) = absurd (omega arith)
+  fault-halts (swap-below k f g t) h n o i p q pop-code = absurd (omega arith)
+  fault-halts (dup-below k f t) h n o i p q (swap-code x y z) = absurd (omega arith)
+  fault-halts (dup-below k f t) h n o i p q (dup-code x y) = underflow (omega arith)
+  fault-halts (dup-below k f t) h n o i p q pop-code = absurd (omega arith)
+  fault-halts (dup-high k f g t) h n o i p q (swap-code x y z) = absurd (omega arith)
+  fault-halts (dup-high k f g t) h n o i p q (dup-code x y) = overflow (omega arith)
+  fault-halts (dup-high k f g t) h n o i p q pop-code = absurd (omega arith)
+  fault-halts (pop-empty t) h n o i p q (swap-code x y z) = absurd (omega arith)
+  fault-halts (pop-empty t) h n o i p q (dup-code x y) = absurd (omega arith)
+  fault-halts (pop-empty t) h n o i p q pop-code = underflow (omega arith)
+  fault-halts (load-high id t) h n o i p q d = absurd (not-of-the-stack d (omega arith))
+  fault-halts (store-empty id t) h n o i p q d = absurd (not-of-the-stack d (omega arith))
+  fault-halts (store-other id t f) h n o i p q d = absurd (not-of-the-stack d (omega arith))
+  fault-halts (store-full id t f g) h n o i p q d = absurd (not-of-the-stack d (omega arith))
+  fault-halts (load-under id t f) h n o i p q d = absurd (not-of-the-stack d (omega arith))
+  fault-halts (load-over id t f) h n o i p q d = absurd (not-of-the-stack d (omega arith))

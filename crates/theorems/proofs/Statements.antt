@@ -11,11 +11,12 @@ use mathlib.Core.List.{List, [], _∷_, _++_}
 use lib.ListN.{length, take, drop, take-append-drop, length-drop}
 use Rattle.scope.specs.declared.Op.{Op}
 use Rattle.scope.specs.Words.{Stack, stackOf, _at_}
-use Rattle.scope.specs.Machine.{recordWords, wordsOf, over, gasSum}
+use Rattle.scope.specs.Machine.{recordWords, kind, argument, wordsOf, over, gasSum}
 use Rattle.scope.specs.Rules.{Job, State}
 use Rattle.scope.specs.Shuffle.{Start, codeOf, started, shuffle}
 use Rattle.scope.specs.Replay.{Verdict, verdict, replay}
-use Rattle.scope.specs.Legal.{Legal, Runs, Lawful, Judged}
+use Rattle.scope.specs.Legal.{Legal, Runs, Lawful, Judged, accepted, unlike, faulty}
+use Rattle.scope.specs.Evm.{Instr, Halts, Codes}
 use Rattle.scope.specs.Stack.{fifo}
 use Rattle.scope.specs.Moments.{moments, Follows}
 use Rattle.scope.specs.Once.{Once, Lent, jobLent, startLent, Seen, shuffleDue, SeenVerdict, checkDue}
@@ -27,11 +28,12 @@ use Rattle.scope.proofs.Once.{determined}
 use Rattle.stack.specs.Promises.{stackIn}
 use Rattle.operations.specs.declared.ScheduleConfig.{ScheduleConfig}
 use Rattle.tracked_state.specs.declared.TrackedState.{TrackedState}
-use Rattle.shuffler.specs.Promises.{lentPlain, lentState}
+use Rattle.tracked_state.specs.Promises.{trackedOf}
+use Rattle.shuffler.specs.Promises.{lentPlain, lentState, stateDue}
 use Rattle.replay.specs.Promises.{answered}
 use Rattle.theorems.specs.Outcomes.{Shuffled, shows, Shuffles, Checked, finds, Checks, lentAfter, confirmDue, Wrote, OnEvm}
 use Rattle.theorems.proofs.After.{after-shuffle, confirms-success}
-use Rattle.theorems.proofs.Carried.{code-is, stack-is, values-are, wrote, due-nothing, check-code-is, found, answered-by, wrote-once, at-place, on-evm}
+use Rattle.theorems.proofs.Carried.{code-is, stack-is, values-are, wrote, due-nothing, check-code-is, found, answered-by, wrote-once, at-place, on-evm, fault-halts}
 
 -- ---- A job that codes 1 to 5 refuse
 
@@ -129,6 +131,26 @@ module _ (e : Lent) (v : Checked) (h : Stated (startLent e)) (p : Checks e v) (z
       let f = found e v p in
       (r .spilled, rw (f .0, f .1, f .2) (verdict-exact (jobLent e) (startLent e) (e .words) h z r even .0 refl), f .3, f .4)
 
+  -- Where it refuses for the stack's sake (33, 35, 36, 37), the operations before the record at fault are legal, and on the stack that they
+  -- leave the record's instruction, if the EVM has one for it, halts.
+  pub refuses-what-halts : length (e .words) % 2 ≡ 0 → 33 ≤ v .verdict .code → v .verdict .code ≤ 37 → v .verdict .code ≢ 34
+      → (os : List Op) × (k : ℕ) × (a : ℕ) × (rest : List ℕ) × (l : List ℕ) × (m : List ℕ)
+      × (e .words ≡ wordsOf os ++ k ∷ a ∷ rest)
+      × (length os ≡ v .verdict .index)
+      × Runs (jobLent e) os (e .stack .values) (take (e .filled) (e .spill)) l m
+      × ((o : Op) (i : Instr) → kind o ≡ k → argument o ≡ a → Codes o i → Halts i l)
+  refuses-what-halts even low high not = go (judges-rightly even .1) low high not
+    where
+      go : {x : Verdict} → Judged (jobLent e) (e .stack .values) (take (e .filled) (e .spill)) (e .words) x → 33 ≤ x .code → x .code ≤ 37 → x .code ≢ 34
+          → (os : List Op) × (k : ℕ) × (a : ℕ) × (rest : List ℕ) × (l : List ℕ) × (m : List ℕ)
+          × (e .words ≡ wordsOf os ++ k ∷ a ∷ rest)
+          × (length os ≡ x .index)
+          × Runs (jobLent e) os (e .stack .values) (take (e .filled) (e .spill)) l m
+          × ((o : Op) (i : Instr) → kind o ≡ k → argument o ≡ a → Codes o i → Halts i l)
+      go (accepted os m q r) a b n = absurd (omega arith)
+      go (unlike os l m q r d) a b n = absurd (omega arith)
+      go (faulty os l m k x c rest q r f) a b n = (os, k, x, rest, l, m, q, refl, r, fault-halts (jobLent e) l (length m) f a n)
+
   -- Of any other number of words it replays none: 30.
   pub wants-whole-records : length (e .words) % 2 ≢ 0 → v .verdict .code ≡ 30
   wants-whole-records odd = check-code-is e v p ∙ ap (λ (r : Verdict). r .code) (odd-exact (jobLent e) (startLent e) (e .words) h z odd)
@@ -172,6 +194,10 @@ shuffle-once = determined shows shuffleDue
 
 pub check-once : Once finds checkDue
 check-once = determined finds checkDue
+
+-- and of the state that `run` and the entry leave, its stack, its first slot and its counts; where codes 1 to 5 refuse, it is the state that was lent
+pub state-once : Once trackedOf stateDue
+state-once = determined trackedOf stateDue
 
 -- ---- Every call states its start
 

@@ -6,4 +6,5 @@ pub mod driver;
 pub mod port;
 pub mod reduce;
 pub mod rng;
+pub mod sample;
 pub mod text;

@@ -1,7 +1,7 @@
 //! Codes 1 to 5: each limit just kept and just passed, in every combination.
 
 use super::{Take, bare, lend};
-use crate::rng::Rng;
+use crate::{driver::SLOTS, rng::Rng};
 
 pub fn all(rng: &mut Rng, count: u64, take: Take) {
     for turn in 0..count {
@@ -22,6 +22,22 @@ pub fn all(rng: &mut Rng, count: u64, take: Take) {
             true => highest + rng.from_to(1, slots) as u32,
             false => rng.pick(&[0, highest]),
         };
+        take(job);
+    }
+}
+
+/// The same for the driver, whose buffers are always of one size: the slots
+/// just filled and one more than that, and the last first slot that they allow.
+pub fn driver(rng: &mut Rng, count: u64, take: Take) {
+    for turn in 0..count {
+        let passed = |limit: u32| turn >> limit & 1 == 1;
+        let swap = if passed(0) { 0 } else { rng.pick(&[1, 2, 16, 255]) };
+        let (start, target) = (values(rng, passed(1)), values(rng, passed(2)));
+        let stored = if passed(3) { SLOTS + 1 } else { rng.pick(&[0, 3, SLOTS - 1, SLOTS]) };
+        let spilled = (0..stored).map(|i| 1 + i as u32 % 5).collect();
+        let mut job = bare(start, spilled, target, swap, rng.pick(&[0, 15, 255]));
+        let highest = u32::MAX - SLOTS as u32;
+        job.first = if passed(4) { highest + 1 } else { rng.pick(&[0, highest]) };
         take(job);
     }
 }

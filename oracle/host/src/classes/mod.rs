@@ -44,6 +44,10 @@ pub const CLASSES: &[Class] = &[
     class("endless", 2, 40, room::endless),
 ];
 
+/// The driver's own limits, for the recorded sample: its buffers are not the
+/// job's to choose, so the other classes do not meet them.
+pub const DRIVER: Class = class("driver-limits", 800, 800, limits::driver);
+
 /// Lends words that hold a pattern, so that a write past the counts shows: the
 /// spill words beyond the filled ones are half the time values of the job, which
 /// a search that goes too far would find.
