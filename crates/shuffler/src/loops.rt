@@ -6,6 +6,7 @@ use crate::perform::pop;
 use crate::tick::grow_tick;
 use crate::tick::shrink_tick;
 use operations::ScheduleConfig;
+use tracked::Numbers;
 ghost use mathlib.Core.Path.{_≡_};
 ghost use mathlib.Core.List.{List};
 ghost use Prim.Native.Nat.{ℕ, _≤_};
@@ -57,7 +58,18 @@ pub(crate) fn shrink(
                 progress: next,
             };
         }
-        here = next;
+        // one by one: a copy of all of them would wait for the stores of each
+        let n = next.numbers;
+        let numbers = Numbers {
+            len: n.len,
+            first: n.first,
+            filled: n.filled,
+            written: n.written,
+        };
+        here = Progress {
+            numbers,
+            complete: next.complete,
+        };
     }
 }
 
@@ -102,7 +114,18 @@ pub(crate) fn grow(
                 progress: next,
             };
         }
-        here = next;
+        // one by one: a copy of all of them would wait for the stores of each
+        let n = next.numbers;
+        let numbers = Numbers {
+            len: n.len,
+            first: n.first,
+            filled: n.filled,
+            written: n.written,
+        };
+        here = Progress {
+            numbers,
+            complete: next.complete,
+        };
     }
 }
 
