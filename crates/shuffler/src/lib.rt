@@ -22,6 +22,23 @@ pub(crate) struct Progress {
     pub complete: usize,
 }
 
+// The same, number by number: a copy of the whole would wait for the stores of each.
+pub(crate) fn one_by_one(p: Progress) -> Progress
+    ensures { λ r. ⌜ r ≡ p ⌝ }
+{
+    let n = p.numbers;
+    let numbers = Numbers {
+        len: n.len,
+        first: n.first,
+        filled: n.filled,
+        written: n.written,
+    };
+    Progress {
+        numbers,
+        complete: p.complete,
+    }
+}
+
 // A code, 0 for done, and where the run stands after it.
 pub(crate) struct Performed {
     pub code: u32,

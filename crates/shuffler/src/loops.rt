@@ -2,11 +2,11 @@
 use crate::Looped;
 use crate::Performed;
 use crate::Progress;
+use crate::one_by_one;
 use crate::perform::pop;
 use crate::tick::grow_tick;
 use crate::tick::shrink_tick;
 use operations::ScheduleConfig;
-use tracked::Numbers;
 ghost use mathlib.Core.Path.{_≡_};
 ghost use mathlib.Core.List.{List};
 ghost use Prim.Native.Nat.{ℕ, _≤_};
@@ -58,18 +58,7 @@ pub(crate) fn shrink(
                 progress: next,
             };
         }
-        // one by one: a copy of all of them would wait for the stores of each
-        let n = next.numbers;
-        let numbers = Numbers {
-            len: n.len,
-            first: n.first,
-            filled: n.filled,
-            written: n.written,
-        };
-        here = Progress {
-            numbers,
-            complete: next.complete,
-        };
+        here = one_by_one(next);
     }
 }
 
@@ -114,18 +103,7 @@ pub(crate) fn grow(
                 progress: next,
             };
         }
-        // one by one: a copy of all of them would wait for the stores of each
-        let n = next.numbers;
-        let numbers = Numbers {
-            len: n.len,
-            first: n.first,
-            filled: n.filled,
-            written: n.written,
-        };
-        here = Progress {
-            numbers,
-            complete: next.complete,
-        };
+        here = one_by_one(next);
     }
 }
 
