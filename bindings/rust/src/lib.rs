@@ -19,7 +19,10 @@
 //! # Ok::<(), njallavet::Refusal>(())
 //! ```
 
+#![deny(missing_docs, unsafe_code)]
+
 mod codes;
+#[allow(unsafe_code)]
 mod ffi;
 mod state;
 
@@ -30,10 +33,15 @@ use std::fmt;
 /// One operation of the machine.
 #[derive(Debug, Clone, Copy, PartialEq, Eq, Hash)]
 pub enum Op {
+    /// Exchanges the top and the value at this depth.
     Swap(u8),
+    /// Pushes a copy of the value at this depth; 0 is the top, so `Dup(0)` is the machine's DUP1.
     Dup(u8),
+    /// Drops the top.
     Pop,
+    /// Moves the top into the slot with this number.
     Store(u32),
+    /// Pushes what the slot with this number holds.
     Load(u32),
 }
 
@@ -78,7 +86,9 @@ impl fmt::Display for Op {
 /// How deep a swap and a dup may reach. The default is the machine's: SWAP16, and DUP16, which copies depth 15.
 #[derive(Debug, Clone, Copy, PartialEq, Eq)]
 pub struct Limits {
+    /// The deepest `Swap`; 0 is refused with `Limit`.
     pub max_swap_depth: u8,
+    /// The deepest `Dup`.
     pub max_dup_depth: u8,
 }
 
@@ -97,7 +107,9 @@ impl Default for Limits {
 pub struct Answer {
     /// Nothing where the shuffle is done.
     pub refusal: Option<Refusal>,
+    /// Ticks passed in shrink.
     pub shrink_ticks: u32,
+    /// Ticks passed in grow.
     pub grow_ticks: u32,
     /// Operations written by this call.
     pub ops: usize,
@@ -158,11 +170,14 @@ fn known<C: TryFrom<u32, Error = NoCode>>(code: u32) -> Option<C> {
         .then(|| C::try_from(code).unwrap_or_else(|other| panic!("the archive answered {other}")))
 }
 
-/// The stored values: a buffer, how many of its words are filled, and the number of its first slot.
+/// The stored values, and the slots for more.
 #[derive(Debug)]
 pub struct Spill<'a> {
+    /// The buffer: a word for each slot.
     pub words: &'a mut [u32],
+    /// How many of its words are stored values, oldest first.
     pub filled: usize,
+    /// The number of its first slot.
     pub first: u32,
 }
 

@@ -96,12 +96,12 @@ mod tests {
     // A job that each of the codes 1 to 5 refuses: the length field, the target's height, the slots filled, the first slot, the limits.
     #[rustfmt::skip]
     const REFUSED: [(u16, usize, usize, u32, Limits, Refusal); 6] = [
-        (3, 0, 0, 0, Limits { max_swap_depth: 0, max_dup_depth: 0 }, Refusal::Limit),
-        (1025, 0, 0, 0, LIMITS, Refusal::Start),
-        (u16::MAX, 0, 0, 0, LIMITS, Refusal::Start),
-        (3, 1025, 0, 0, LIMITS, Refusal::Target),
-        (3, 0, 3, 0, LIMITS, Refusal::Filled),
-        (3, 0, 0, u32::MAX - 1, LIMITS, Refusal::Slots),
+        (3, 0, 1, 40, Limits { max_swap_depth: 0, max_dup_depth: 0 }, Refusal::Limit),
+        (1025, 0, 1, 40, LIMITS, Refusal::Start),
+        (u16::MAX, 0, 1, 40, LIMITS, Refusal::Start),
+        (3, 1025, 1, 40, LIMITS, Refusal::Target),
+        (2, 0, 3, 40, LIMITS, Refusal::Filled),
+        (3, 0, 1, u32::MAX - 1, LIMITS, Refusal::Slots),
     ];
 
     /// Every word of the array has a value of its own, those that are no values of the stack too, and so has each count.

@@ -1,5 +1,8 @@
-//! The port's two calls. With the feature `archive` they go into the archive;
+//! The port's calls. With the feature `archive` they go into the archive;
 //! without it the second reading stands in, and what is compared is that one.
+//! A shuffle is put to both calls of the archive that shuffle: what the one over
+//! plain slices answers is compared with the original, and the one on a state has
+//! to agree with it.
 
 pub use side::{NAME, check, shuffle, timed};
 
@@ -30,6 +33,23 @@ mod side {
         stack_len: u16,
     }
 
+    impl Stack {
+        fn values(&self) -> &[u32] {
+            let height = usize::from(self.stack_len);
+            assert!(height <= HEIGHT, "the port's end stack is {height} high");
+            &self.stack_raw[HEIGHT - height..]
+        }
+    }
+
+    /// A stack on its way, with what belongs to it in the two buffers.
+    #[repr(C)]
+    struct State {
+        stack: Stack,
+        first: u32,
+        filled: usize,
+        written: usize,
+    }
+
     #[repr(C)]
     struct CAnswer {
         code: u32,
@@ -56,6 +76,18 @@ mod side {
             spill_len: usize,
             filled: usize,
             first: u32,
+            target: *const u32,
+            target_len: usize,
+            max_swap_depth: u8,
+            max_dup_depth: u8,
+            ops: *mut u32,
+            ops_len: usize,
+        ) -> CAnswer;
+
+        fn njallavet_run(
+            state: *mut State,
+            spill: *mut u32,
+            spill_len: usize,
             target: *const u32,
             target_len: usize,
             max_swap_depth: u8,
@@ -135,21 +167,80 @@ mod side {
         usize::from(call(job, spill.as_mut_ptr(), ops.as_mut_ptr()).stack.stack_len)
     }
 
+    impl From<CAnswer> for Answer {
+        fn from(answer: CAnswer) -> Answer {
+            Answer {
+                code: answer.code,
+                shrink_ticks: answer.shrink_ticks,
+                grow_ticks: answer.grow_ticks,
+                ops: answer.ops,
+                slots: answer.slots,
+                stack: answer.stack.values().to_vec(),
+            }
+        }
+    }
+
     pub fn shuffle(job: &mut Job) -> Answer {
+        let lent = job.clone();
         let (mut spill, mut ops) = (Guarded::new(&job.spill), Guarded::new(&job.ops));
-        let answer = call(job, spill.lent(), ops.lent());
+        let answer = Answer::from(call(job, spill.lent(), ops.lent()));
         spill.take_back(&mut job.spill);
         ops.take_back(&mut job.ops);
-        let height = usize::from(answer.stack.stack_len);
-        assert!(height <= HEIGHT, "the port's end stack is {height} high");
-        Answer {
-            code: answer.code,
-            shrink_ticks: answer.shrink_ticks,
-            grow_ticks: answer.grow_ticks,
-            ops: answer.ops,
-            slots: answer.slots,
-            stack: answer.stack.stack_raw[HEIGHT - height..].to_vec(),
+        match run_says_the_same(&lent, job, &answer) {
+            true => answer,
+            false => Answer { code: RUN_DIFFERS, ..answer },
         }
+    }
+
+    /// No code of the port's: the call on a state came to something else than the
+    /// call over plain slices.
+    const RUN_DIFFERS: u32 = 98;
+
+    /// How many operations stand before those of a run on a state.
+    const BEFORE: usize = 3;
+
+    /// `lent` put to the call on a state, with operations written before it; `after`
+    /// and `answer` are what the call over plain slices made of it. A start that is
+    /// higher than a state can be has no such call.
+    fn run_says_the_same(lent: &Job, after: &Job, answer: &Answer) -> bool {
+        let Some(free) = HEIGHT.checked_sub(lent.start.len()) else {
+            return true;
+        };
+        let mut stack_raw = [0x5555_5555; HEIGHT];
+        stack_raw[free..].copy_from_slice(&lent.start);
+        let stack_len = lent.start.len() as u16; // at most 1,024
+        let mut state = State {
+            stack: Stack { stack_raw, stack_len },
+            first: lent.first,
+            filled: lent.filled,
+            written: BEFORE,
+        };
+        let (mut spill, mut words) = (lent.spill.clone(), vec![9; 2 * BEFORE]);
+        words.extend(&lent.ops);
+        // SAFETY: three buffers and a state of this function's own.
+        let own = Answer::from(unsafe {
+            njallavet_run(
+                &mut state,
+                spill.as_mut_ptr(),
+                spill.len(),
+                lent.target.as_ptr(),
+                lent.target.len(),
+                lent.swap,
+                lent.dup,
+                words.as_mut_ptr(),
+                words.len(),
+            )
+        });
+        // a job that is refused leaves the state as it was lent
+        let left = match answer.code {
+            1..=5 => (&lent.start[..], lent.filled, BEFORE),
+            _ => (&answer.stack[..], answer.slots, BEFORE + answer.ops),
+        };
+        own == *answer
+            && (spill == after.spill && words[2 * BEFORE..] == after.ops)
+            && words[..2 * BEFORE].iter().all(|&word| word == 9)
+            && (state.stack.values(), state.filled, state.written) == left
+            && state.first == lent.first
     }
 
     pub fn check(job: &mut Job) -> Verdict {
