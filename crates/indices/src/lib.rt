@@ -39,12 +39,14 @@ impl FromTop {
 pub fn at(s: &[u32], p: FromBottom) -> u32
     ensures { λ r. ⌜ r ≡ (now (s .entry) at p .0) ⌝ }
 {
+    if p.0 < s.len() {
+        let i = s.len() - 1 - p.0;
+        return s[i];
+    }
     if s.len() == 0 {
         return 0;
     }
-    let d = p.to_depth(s.len());
-    let i = d.0;
-    s[i]
+    s[0]
 }
 
 // The part of the named stack from a position up, lent back; nothing past the top. What is above a position p is asked for with p + 1.

@@ -1,23 +1,15 @@
--- Membership by counting block after block.
-use Prim.Native.Nat.{ℕ, _+_, _-_, _≤_, _<_}
+-- Membership, counts and the latest entry, block after block.
+use Prim.Native.Nat.{ℕ, zero, suc, _+_, _-_, _≤_, _<_}
 use native.Mathlib.Omega.{arith}
 use mathlib.Core.Path.{_≡_, refl, sym, ap, _∙_}
 use mathlib.Core.Bool.{Bool, true, false}
-use mathlib.Core.List.{List}
-use lib.ListN.{length, take, drop, take-append-drop, length-drop}
-use lib.Seq.{drop-drop, take-all}
-use lib.Dec.{ltb}
-use borrow.Author.Tests.{lt-ltb, le-ltb}
-use Rattle.scope.specs.Words.{_∈_, count}
-use Rattle.scope.proofs.Counts.{count-append, count-in, in-count, out-count}
-
--- a value is in a list exactly where it is counted
-pub in-is-counted : (v : ℕ) (l : List ℕ) → (v ∈ l) ≡ ltb 0 (count v l)
-in-is-counted v l = go (v ∈ l) refl
-  where
-    go : (b : Bool) → (v ∈ l) ≡ b → (v ∈ l) ≡ ltb 0 (count v l)
-    go true e = e ∙ sym (lt-ltb 0 (count v l) (in-count v l e))
-    go false e = e ∙ sym (le-ltb 0 (count v l) (omega (arith, out-count v l e)))
+use mathlib.Core.List.{List, [], _∷_, _++_}
+use lib.ListN.{length, getD, take, drop, take-append-drop, length-drop, drop-of-length-le}
+use lib.Seq.{drop-drop, take-all, take-suc, getD-drop}
+use lib.Dec.{eqb}
+use Rattle.scope.specs.Words.{_∈_, count, highest, holds, latestOf}
+use Rattle.scope.proofs.Counts.{one-hit, count-nil, count-cons, count-append, count-in, count-out}
+use Rattle.scope.proofs.Walks.{highest-miss}
 
 -- the list from i on is the block from i to e and the list from e on
 pub count-block : (v : ℕ) (l : List ℕ) (i e : ℕ) → i ≤ e → count v (drop i l) ≡ count v (take (e - i) (drop i l)) + count v (drop e l)
@@ -38,5 +30,43 @@ module _ (v : ℕ) (l : List ℕ) (i e k : ℕ) (rest : count v (drop i l) ≡ c
   pub block-lacks : i ≤ e → k ≤ 0 → count v (drop e l) ≡ count v l
   block-lacks h p = omega (arith, count-block v l i e h)
 
-pub last-block : (v : ℕ) (l : List ℕ) (i k : ℕ) → count v (drop i l) ≡ count v l → k ≡ count v (take (length l - i) (drop i l)) → ltb 0 k ≡ (v ∈ l)
-last-block v l i k rest block = sym (in-is-counted v l ∙ ap (ltb 0) (sym rest ∙ ap (count v) (sym (rest-whole l i)) ∙ sym block))
+-- nothing is left to look at
+pub none-left : (v : ℕ) (l : List ℕ) (i : ℕ) → count v (drop i l) ≡ count v l → length l ≤ i → false ≡ (v ∈ l)
+none-left v l i rest h = sym (count-out v l (sym rest ∙ ap (count v) (drop-of-length-le l h) ∙ count-nil v))
+
+-- ---- counting on, block after block
+
+module _ (v : ℕ) (l : List ℕ) (i n k : ℕ) (rest : n + count v (drop i l) ≡ count v l) where
+  pub counted-on : (e : ℕ) → k ≡ count v (take (e - i) (drop i l)) → i ≤ e → n + k + count v (drop e l) ≡ count v l
+  counted-on e block h = omega (arith, count-block v l i e h)
+
+  pub counted-all : k ≡ count v (take (length l - i) (drop i l)) → n + k ≡ count v l
+  counted-all block = omega (arith, ap (count v) (rest-whole l i))
+
+-- ---- from the end
+
+-- a value that is counted nowhere in a list with x at its end is not x
+not-last : (v x n : ℕ) → n + count v (x ∷ []) ≡ 0 → eqb x v ≡ false
+not-last v x n z = go (eqb x v) refl
+  where
+    go : (b : Bool) → eqb x v ≡ b → eqb x v ≡ false
+    go true e = absurd (omega (arith, count-cons v x [], one-hit v x e))
+    go false e = e
+
+-- the k entries from i on lack v, so that none of them is the latest
+skipped : (v : ℕ) (l : List ℕ) (i k : ℕ) → i + k ≤ length l → count v (take k (drop i l)) ≡ 0 → highest (i + k) (holds l v) ≡ highest i (holds l v)
+unfolding holds
+skipped v l i zero h z = let q : i + 0 ≡ i = omega arith in rw q
+skipped v l i (suc k) h z =
+    let inside : k < length (drop i l) = simp length-drop (omega arith) in
+    let split : count v (take k (drop i l)) + count v (getD (drop i l) k 0 ∷ []) ≡ 0 =
+    sym (count-append v (take k (drop i l)) (getD (drop i l) k 0 ∷ [])) ∙ ap (count v) (sym (take-suc (drop i l) k 0 inside)) ∙ z in
+    let other : eqb (getD l (i + k) 0) v ≡ false = rw getD-drop at (not-last v (getD (drop i l) k 0) (count v (take k (drop i l))) split) in
+    let q : i + suc k ≡ i + k + 1 = omega arith in
+    rw q (highest-miss (i + k) (holds l v) other ∙ skipped v l i k (omega arith) (omega arith))
+
+pub end-lacks : (v : ℕ) (l : List ℕ) (i e k : ℕ) → highest e (holds l v) ≡ latestOf v l → k ≡ count v (take (e - i) (drop i l)) → i ≤ e → e ≤ length l → k ≤ 0
+    → highest i (holds l v) ≡ latestOf v l
+end-lacks v l i e k rest block h m none =
+    let q : i + (e - i) ≡ e = omega arith in
+    sym (skipped v l i (e - i) (omega arith) (omega arith)) ∙ ap (λ (n : ℕ). highest n (holds l v)) q ∙ rest

@@ -15,7 +15,8 @@ use Rattle.scope.proofs.JobCodes.{Passes, passes}
 use Rattle.scope.proofs.Loops.{if-not}
 use Rattle.operations.specs.declared.ScheduleConfig.{ScheduleConfig}
 use Rattle.stack.specs.declared.EvmStack.{EvmStack}
-use Rattle.stack.specs.Promises.{stackIn, Fresh, Leaves, blank}
+use Rattle.stack.specs.Promises.{stackIn, Fresh, Leaves}
+use Rattle.stack.proofs.Laws.{fifo-none}
 use Rattle.tracked.specs.Promises.{trackedIn}
 use Rattle.tracked_state.specs.declared.TrackedState.{TrackedState}
 use Rattle.tracked_state.specs.Promises.{trackedOf}
@@ -25,7 +26,7 @@ use Rattle.shuffler.specs.Held.{Holding}
 use Rattle.shuffler.specs.Runs.{Tells}
 use Rattle.shuffler.specs.Entry.{begins}
 use Rattle.shuffler.specs.Performing.{holding}
-use Rattle.shuffler.specs.Promises.{seenIn, lentPlain, lentState, stateDue, KeptIfRefused, Refuses}
+use Rattle.shuffler.specs.Promises.{seenIn, answerIn, stoppedAt, lentPlain, lentState, stateDue, KeptIfRefused, Refuses}
 use Rattle.shuffler.proofs.Entry.{entry-done, entry-refused, state-done}
 
 -- an empty answer
@@ -37,38 +38,32 @@ pub seen-refused : (e : Lent) (code : ℕ) (r : Answer) → code ≡ codeOf (job
 seen-refused e code r is ne f = rw (f .is, f .shrinkTicks, f .growTicks, f .ops, f .slots, f .stack) (entry-refused e code is ne)
 
 -- a stack made from a list that is not too long
-made-is : (start raw : List ℕ) (code len : ℕ) → length start ≤ 1024 → Leaves (madeFrom start) code len blank raw → kept raw len ≡ stackOf start
+made-is : (start before raw : List ℕ) (code len : ℕ) → length start ≤ 1024 → Leaves (madeFrom start) code len before raw → kept raw len ≡ stackOf start
 unfolding madeFrom
-made-is start raw code len h l = ap (λ (x : Left). x .stack) (rw (le-ltb 1024 (length start) h) at (l .answer))
+made-is start before raw code len h l = ap (λ (x : Left). x .stack) (rw (le-ltb 1024 (length start) h) at (l .answer))
 
 -- ---- over plain slices
 module _ (start spill : List ℕ) (filled first : ℕ) (target : List ℕ) (config : ScheduleConfig) (words : List ℕ) (code : ℕ)
     (is : code ≡ jobCode (config .«max_swap_depth») (length start) (length target) filled (length spill) first) where
-  pub shuffle-refused : (r : Answer) → (code ≡ 0 → ⊥) → Refuses code r → seenIn r spill words ≡ shuffleDue (lentPlain start spill filled first target config words)
-  shuffle-refused r ne f = seen-refused (lentPlain start spill filled first target config words) code r is ne f
+  pub shuffle-refused : (raw : List ℕ) (r : Ended) → (code ≡ 0 → ⊥) → r ≡ stoppedAt code → seenIn (answerIn r raw) spill words ≡ shuffleDue (lentPlain start spill filled first target config words)
+  shuffle-refused raw r ne q =
+      rw q
+      (seen-refused (lentPlain start spill filled first target config words) code (answerIn (stoppedAt code) raw) is ne
+      (record { is = refl; shrinkTicks = refl; growTicks = refl; ops = refl; slots = refl; stack = rw (fifo-none raw) }))
 
-  pub shuffle-done : (raw : List ℕ) (made len : ℕ) (raw′ spill′ words′ : List ℕ) (e : Ended) → code ≡ 0
-      → Leaves (madeFrom start) made len blank raw
+  pub shuffle-done : (before raw : List ℕ) (made len : ℕ) (raw′ spill′ words′ : List ℕ) (e : Ended) → code ≡ 0
+      → Leaves (madeFrom start) made len before raw
       → Tells target (config .«max_swap_depth») (config .«max_dup_depth»)
       (holding raw (record { numbers = record { len = len; first = first; filled = filled; written = 0 }; complete = 0 }) words spill)
       (e .code) (e .«shrink_ticks») (e .«grow_ticks») (holding raw′ (e .progress) words′ spill′) runFrom
-      → seenIn
-      (record {
-        code = e .code;
-        «shrink_ticks» = e .«shrink_ticks»;
-        «grow_ticks» = e .«grow_ticks»;
-        ops = e .progress .numbers .written;
-        slots = e .progress .numbers .filled;
-        stack = record { «stack_raw» = raw′; «stack_len» = e .progress .numbers .len };
-      })
-      spill′ words′
-      ≡ shuffleDue (lentPlain start spill filled first target config words)
+      → seenIn (answerIn e raw′) spill′ words′ ≡ shuffleDue (lentPlain start spill filled first target config words)
   unfolding trackedIn
-  shuffle-done raw made len raw′ spill′ words′ e z l t =
+  shuffle-done before raw made len raw′ spill′ words′ e z l t =
       let lent = lentPlain start spill filled first target config words in
       let pass = passes (config .«max_swap_depth») (length start) (length target) filled (length spill) first (sym is ∙ z) in
       let n : e .progress .numbers .written - 0 ≡ e .progress .numbers .written = omega arith in
-      let q = entry-done lent pass refl (sym is ∙ z) (e .code) (e .«shrink_ticks») (e .«grow_ticks») (holding raw′ (e .progress) words′ spill′) (rw (made-is start raw made len (pass .start) l) at t) in
+      let q = entry-done lent pass refl (sym is ∙ z) (e .code) (e .«shrink_ticks») (e .«grow_ticks») (holding raw′ (e .progress) words′ spill′)
+      (rw (made-is start before raw made len (pass .start) l) at t) in
       rw n at q
 
 -- ---- of a tracked state

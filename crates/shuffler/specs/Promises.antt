@@ -12,6 +12,7 @@ use Rattle.operations.specs.declared.ScheduleConfig.{ScheduleConfig}
 use Rattle.tracked_state.specs.declared.TrackedState.{TrackedState}
 use Rattle.tracked_state.specs.Promises.{trackedOf}
 use Rattle.shuffler.specs.declared.Answer.{Answer}
+use Rattle.shuffler.specs.declared.Ended.{Ended}
 
 -- what is seen of an answer and of the two buffers after the call
 abbrev pub seenIn : Answer → List ℕ → List ℕ → Seen
@@ -24,6 +25,26 @@ seenIn r spill words = record {
   stack = stackIn (r .stack);
   spill = spill;
   words = words;
+}
+
+-- the answer to a run that ended so, with its stack in these words
+abbrev pub answerIn : Ended → List ℕ → Answer
+answerIn e raw = record {
+  code = e .code;
+  «shrink_ticks» = e .«shrink_ticks»;
+  «grow_ticks» = e .«grow_ticks»;
+  ops = e .progress .numbers .written;
+  slots = e .progress .numbers .filled;
+  stack = record { «stack_raw» = raw; «stack_len» = e .progress .numbers .len };
+}
+
+-- an end with a code and nothing else
+abbrev pub stoppedAt : ℕ → Ended
+stoppedAt code = record {
+  code = code;
+  «shrink_ticks» = 0;
+  «grow_ticks» = 0;
+  progress = record { numbers = record { len = 0; first = 0; filled = 0; written = 0 }; complete = 0 };
 }
 
 -- what is lent to `shuffle`: nothing is written yet

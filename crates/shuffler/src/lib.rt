@@ -8,7 +8,7 @@ ghost use mathlib.Core.Path.{_≡_};
 ghost use Rattle.scope.specs.Shuffle.{jobCode};
 ghost use Rattle.scope.specs.Once.{shuffleDue};
 ghost use Rattle.tracked_state.specs.Promises.{trackedOf};
-ghost use Rattle.shuffler.specs.Promises.{seenIn, lentPlain, lentState, stateDue, KeptIfRefused, Refuses};
+ghost use Rattle.shuffler.specs.Promises.{seenIn, answerIn, stoppedAt, lentPlain, lentState, stateDue, KeptIfRefused, Refuses};
 
 mod loops;
 mod perform;
@@ -19,6 +19,23 @@ mod whole;
 pub(crate) struct Progress {
     pub numbers: Numbers,
     pub complete: usize,
+}
+
+// The same, number by number: a copy of the whole would wait for the stores of each.
+pub(crate) fn one_by_one(p: Progress) -> Progress
+    ensures { λ r. ⌜ r ≡ p ⌝ }
+{
+    let n = p.numbers;
+    let numbers = Numbers {
+        len: n.len,
+        first: n.first,
+        filled: n.filled,
+        written: n.written,
+    };
+    Progress {
+        numbers,
+        complete: p.complete,
+    }
 }
 
 // A code, 0 for done, and where the run stands after it.
@@ -82,7 +99,29 @@ fn job_code(swaps: u8, height: usize, target: usize, filled: usize, slots: usize
     0
 }
 
-// The answer to a job that codes 1 to 5 refuse: zero counts and an empty stack.
+// The end of a job that codes 1 to 5 refuse: zero counts and an empty stack.
+fn stopped(code: u32) -> Ended
+    ensures { λ r. ⌜ r ≡ stoppedAt code ⌝ }
+{
+    let numbers = Numbers {
+        len: 0,
+        first: 0,
+        filled: 0,
+        written: 0,
+    };
+    let progress = Progress {
+        numbers,
+        complete: 0,
+    };
+    Ended {
+        code,
+        shrink_ticks: 0,
+        grow_ticks: 0,
+        progress,
+    }
+}
+
+// The answer to such a job.
 fn refused(code: u32) -> Answer
     ensures { λ r. ⌜ Refuses code r ⌝ }
 {
@@ -97,8 +136,48 @@ fn refused(code: u32) -> Answer
     }
 }
 
-// The shuffle over plain slices: codes 1 to 5, then the run. The operations' words and the stored values stand at the low ends of the two
-// lent buffers; every other word of them is as it was lent.
+// The shuffle over plain slices, in the words of a stack, whatever they hold: codes 1 to 5, then the run.
+fn shuffle_in(
+    raw: &mut [u32; 1024],
+    start: &[u32],
+    spill: &mut [u32],
+    filled: usize,
+    first: u32,
+    target: &[u32],
+    config: ScheduleConfig,
+    ops: &mut [u32],
+) -> Ended
+    ensures { λ r.
+        ⌜ seenIn (answerIn r (now (raw .exit))) (now (spill .exit)) (now (ops .exit))
+        ≡ shuffleDue (lentPlain (now (start .entry)) (now (spill .entry)) filled first (now (target .entry)) config (now (ops .entry))) ⌝ }
+{
+    let code = job_code(
+        config.max_swap_depth,
+        start.len(),
+        target.len(),
+        filled,
+        spill.len(),
+        first,
+    );
+    if code != 0 {
+        return stopped(code);
+    }
+    let made = stack::lay(raw, start);
+    let numbers = Numbers {
+        len: made.len,
+        first,
+        filled,
+        written: 0,
+    };
+    let p = Progress {
+        numbers,
+        complete: 0,
+    };
+    whole::run_from(raw, p, ops, spill, target, config)
+}
+
+// The shuffle over plain slices. The operations' words and the stored values stand at the low ends of the two lent buffers; every other
+// word of them is as it was lent.
 pub fn shuffle(
     start: &[u32],
     spill: &mut [u32],
@@ -111,33 +190,14 @@ pub fn shuffle(
     ensures { λ r.
         ⌜ seenIn r (now (spill .exit)) (now (ops .exit)) ≡ shuffleDue (lentPlain (now (start .entry)) (now (spill .entry)) filled first (now (target .entry)) config (now (ops .entry))) ⌝ }
 {
-    let code = job_code(
-        config.max_swap_depth,
-        start.len(),
-        target.len(),
-        filled,
-        spill.len(),
-        first,
-    );
-    if code != 0 {
-        return refused(code);
-    }
-    let made = EvmStack::from_fifo(start);
-    let mut stack = made.stack;
-    let numbers = Numbers {
-        len: stack.stack_len,
-        first,
-        filled,
-        written: 0,
-    };
-    let p = Progress {
-        numbers,
-        complete: 0,
-    };
-    let e = whole::run_from(&mut stack.stack_raw, p, ops, spill, target, config);
+    let mut raw = [0u32; 1024];
+    let e = shuffle_in(&mut raw, start, spill, filled, first, target, config, ops);
     let end = e.progress;
     let n = end.numbers;
-    stack.stack_len = n.len;
+    let stack = EvmStack {
+        stack_raw: raw,
+        stack_len: n.len,
+    };
     Answer {
         code: e.code,
         shrink_ticks: e.shrink_ticks,

@@ -2,6 +2,7 @@
 use crate::Looped;
 use crate::Performed;
 use crate::Progress;
+use crate::one_by_one;
 use crate::perform::pop;
 use crate::tick::grow_tick;
 use crate::tick::shrink_tick;
@@ -57,7 +58,7 @@ pub(crate) fn shrink(
                 progress: next,
             };
         }
-        here = next;
+        here = one_by_one(next);
     }
 }
 
@@ -102,7 +103,7 @@ pub(crate) fn grow(
                 progress: next,
             };
         }
-        here = next;
+        here = one_by_one(next);
     }
 }
 

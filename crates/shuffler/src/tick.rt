@@ -4,6 +4,7 @@ use crate::Progress;
 use crate::perform::perform;
 use operations::ScheduleConfig;
 use rules::Choice;
+use tracked::Numbers;
 ghost use mathlib.Core.Path.{_≡_};
 ghost use mathlib.Core.List.{List};
 ghost use Prim.Native.Nat.{ℕ, _≤_};
@@ -20,7 +21,14 @@ ghost use Rattle.shuffler.specs.Picks.{Turns, recounted};
 pub(crate) fn recount<'a>(raw: &'a [u32; 1024], p: Progress, target: &'a [u32]) -> Progress
     ensures { λ r. ⌜ r ≡ recounted (now (raw .entry)) (now (target .entry)) p ⌝ }
 {
-    let numbers = p.numbers;
+    let n = p.numbers;
+    // one by one: a copy of all of them would wait for the stores of each
+    let numbers = Numbers {
+        len: n.len,
+        first: n.first,
+        filled: n.filled,
+        written: n.written,
+    };
     let current = stack::fifo(raw, numbers.len);
     let complete = rules::counting::update_complete_at_bottom(current, target, p.complete);
     Progress { numbers, complete }

@@ -208,25 +208,29 @@ module _ (d : List ℕ) (at : ℕ) (s : List ℕ) (full : length d ≡ 1024) (fi
   pub fill-end : (w : List ℕ) (i : ℕ) → i ≤ length s → length s ≤ i → w ≡ paste d at s i → w ≡ paste d at s (length s)
   fill-end w i h k e = let n : i ≡ length s = omega arith in rw n at e
 
--- more than fit: `raw` and `n` are what a new stack has
-pub made-long : (s raw : List ℕ) (n : ℕ) → 1024 < length s → kept raw n ≡ stackOf [] → raw ≡ blank → Leaves (madeFrom s) 2 n blank raw
+-- more than fit: the words stay
+pub made-long : (s raw : List ℕ) → length raw ≡ 1024 → length raw < length s → Leaves (madeFrom s) 2 0 raw raw
 unfolding madeFrom
-made-long s raw n h e q =
-    let none : blank ≡ laid [] blank = rw (fifo-none blank) at (laid-fifo blank 0) in
-    rw (lt-ltb 1024 (length s) h) (record { answer = ap (refused 2) e; words = q ∙ none })
+made-long s raw full h =
+    let none : raw ≡ laid [] raw = rw (fifo-none raw) at (laid-fifo raw 0) in
+    rw (lt-ltb 1024 (length s) (omega arith)) (record { answer = rw (fifo-none raw); words = none })
 
-pub made-some : (s d w : List ℕ) → length s ≤ 1024 → d ≡ blank → w ≡ paste d (1024 - length s) s (length s) → Leaves (madeFrom s) 0 (length s) blank w
+pub made-some : (s d w : List ℕ) → length d ≡ 1024 → length s ≤ length d → w ≡ paste d (length d - length s) s (length s) → Leaves (madeFrom s) 0 (length s) d w
 unfolding madeFrom fifo
-made-some s d w h q e =
-    let front : length (take (1024 - length s) blank) ≡ 1024 - length s = length-take-le (1024 - length s) blank (omega arith) in
-    let at : 1024 - length s + length s ≡ 1024 = omega arith in
-    let past : length blank ≤ 1024 = omega arith in
-    let is : w ≡ take (1024 - length s) blank ++ s = e ∙ rw (q, at, drop-of-length-le blank past, append-nil, take-length) in
-    let long : length w ≡ 1024 = ap length is ∙ length-append (take (1024 - length s) blank) s ∙ omega arith in
-    rw (le-ltb 1024 (length s) h)
-    (leaves-at blank w s (length s) long h
+made-some s d w full h e =
+    let front : length (take (length d - length s) d) ≡ length d - length s = length-take-le (length d - length s) d (omega arith) in
+    let at : length d - length s + length s ≡ length d = omega arith in
+    let past : length d ≤ length d = omega arith in
+    let is : w ≡ take (length d - length s) d ++ s = e ∙ rw (at, drop-of-length-le d past, append-nil, take-length) in
+    let long : length w ≡ length d = ap length is ∙ length-append (take (length d - length s) d) s ∙ omega arith in
+    rw (le-ltb 1024 (length s) (omega arith))
+    (leaves-at d w s (length s) long h
     (rw (is, take-at))
     (rw (long, is, drop-at)))
+
+-- laid on the words of a new stack
+pub made-new : (s d w : List ℕ) (code len : ℕ) → d ≡ blank → Leaves (madeFrom s) code len d w → Leaves (madeFrom s) code len blank w
+made-new s d w code len q l = rw q at l
 
 -- ---- looking
 
@@ -270,7 +274,7 @@ pub ruleset counting = (count-fits, count-kept)
 
 pub ruleset finding = (depth-fits, depth-some, depth-none)
 
-pub ruleset making = (made-long, made-some)
+pub ruleset making = (made-long, made-some, made-new)
 
 pub ruleset getting = (get-none, get-some)
 

@@ -165,6 +165,24 @@ fn fill(raw: &mut [u32; 1024], at: usize, values: &[u32])
     }
 }
 
+// These values at the end of the words, top first, and their number; 2, and the words as they are, where there are more than 1,024.
+pub fn lay(raw: &mut [u32; 1024], values: &[u32]) -> After
+    ensures { λ r. ⌜ Leaves (madeFrom (now (values .entry))) (r .code) (r .len) (now (raw .entry)) (now (raw .exit)) ⌝ }
+{
+    // made a slice, the array is known to have 1,024 words
+    let words: &[u32] = raw;
+    let room = words.len();
+    if room < values.len() {
+        return After { code: 2, len: 0 };
+    }
+    let at = room - values.len();
+    fill(raw, at, values);
+    After {
+        code: 0,
+        len: values.len() as u16,
+    }
+}
+
 impl EvmStack {
     // No values.
     pub fn new() -> Self
@@ -182,17 +200,10 @@ impl EvmStack {
         ensures { λ r. ⌜ Leaves (madeFrom (now (values .entry))) (r .code) (r .stack .«stack_len») blank (r .stack .«stack_raw») ⌝ }
     {
         let mut this = EvmStack::new();
-        if 1024 < values.len() {
-            return Answer {
-                code: 2,
-                stack: this,
-            };
-        }
-        let at = 1024 - values.len();
-        fill(&mut this.stack_raw, at, values);
-        this.stack_len = values.len() as u16;
+        let laid = lay(&mut this.stack_raw, values);
+        this.stack_len = laid.len;
         Answer {
-            code: 0,
+            code: laid.code,
             stack: this,
         }
     }

@@ -8,13 +8,15 @@ pub use side::{NAME, check, shuffle, timed};
 
 #[cfg(not(feature = "archive"))]
 mod side {
+    use oracle_job::Job;
     pub use second::{check, shuffle};
 
     pub const NAME: &str = "the second reading, standing in for the port (no archive is linked)";
 
-    /// The call alone, for timing; the answer is the end stack's height.
-    pub fn timed(job: &mut oracle_job::Job) -> usize {
-        shuffle(job).stack.len()
+    /// The call, for timing; the answer is the end stack's height. This stand-in
+    /// uses the job's own buffers.
+    pub fn timed(job: &Job, _spill: &mut [u32], _ops: &mut [u32]) -> usize {
+        shuffle(&mut job.clone()).stack.len()
     }
 }
 
@@ -157,10 +159,12 @@ mod side {
         }
     }
 
-    /// The call alone, for timing; the answer is the end stack's height.
-    pub fn timed(job: &mut Job) -> usize {
-        let (spill, ops) = (job.spill.as_mut_ptr(), job.ops.as_mut_ptr());
-        usize::from(call(job, spill, ops).stack.stack_len)
+    /// The call, for timing, with buffers that are used again and again; the
+    /// stored values are put there first. The answer is the end stack's height.
+    pub fn timed(job: &Job, spill: &mut [u32], ops: &mut [u32]) -> usize {
+        assert!(job.spill.len() <= spill.len() && job.ops.len() <= ops.len());
+        spill[..job.filled].copy_from_slice(&job.spill[..job.filled]);
+        usize::from(call(job, spill.as_mut_ptr(), ops.as_mut_ptr()).stack.stack_len)
     }
 
     impl From<CAnswer> for Answer {

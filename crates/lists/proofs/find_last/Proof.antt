@@ -1,7 +1,7 @@
 -- The search below k gives the whole answer; a turn looks at the entry under it.
 use borrow.Author.Needs.{needs}
 use Prim.Native.Nat.{_≤_}
-use mathlib.Core.Path.{_≡_, refl}
+use mathlib.Core.Path.{_≡_}
 use lib.ListN.{length}
 use Rattle.scope.specs.Words.{highest, holds, latestOf}
 use Rattle.lists.proofs.Finding.{last-loop}
@@ -14,17 +14,14 @@ Inv-loop s v k₀ k = (k ≤ length s) × (highest k (holds s v) ≡ latestOf v 
 abbrev μ-loop : tie.MeasureT-loop
 μ-loop s v k₀ k = k
 
-loop-holds : tie.Need-loop-holds Inv-loop μ-loop
-unfolding latestOf
-loop-holds c = (search needs, refl)
-
 pub find-last-spec : {M : Type 1} → statement M
 find-last-spec =
     tie.close
     (tie.spec
     Inv-loop
     μ-loop
-    loop-holds
+    (λ c κs. search needs)
+    (λ c. (search needs, search needs))
     (λ c. search needs)
     (λ c. search needs)
     (λ c. search needs)

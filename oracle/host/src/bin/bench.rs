@@ -1,16 +1,18 @@
 //! How long the original Rust and the port take for the same jobs, in one
-//! process and by turns: the best of several rounds, in nanoseconds a job.
+//! process and by turns: each job's best of several rounds, in nanoseconds.
 
-use std::{hint::black_box, time::Instant};
+use std::{
+    hint::black_box,
+    time::{Duration, Instant},
+};
 
 use host::{port, rng::Rng};
 use oracle_job::{HEIGHT, Job, codes};
 use stack_scheduling::original::{self, Ready};
 
+/// At least so many rounds, and for so long.
 const ROUNDS: usize = 9;
-
-/// A round takes at least this long on each side.
-const ROUND_NANOSECONDS: u128 = 60_000_000;
+const AT_LEAST: Duration = Duration::from_secs(2);
 
 type Make = fn(&mut Rng) -> Job;
 
@@ -28,7 +30,11 @@ fn main() {
         println!("under an emulator: the ratios do not decide");
     }
     println!("{:10} {:>12} {:>12} {:>7}", "class", "rust-ns", "port-ns", "ratio");
+    let only = std::env::args().nth(1);
     for (name, count, make) in CLASSES {
+        if only.as_ref().is_some_and(|only| only != name) {
+            continue;
+        }
         let mut rng = Rng::new(20_261_007);
         let jobs: Vec<Job> = std::iter::repeat_with(|| make(&mut rng))
             .filter(|job| original::shuffle(&mut job.clone()).code == codes::DONE)
@@ -39,37 +45,35 @@ fn main() {
     }
 }
 
+/// The nanoseconds a job on each side. A job's time is its best over all rounds,
+/// so that a round in which the machine did something else does not count. Both
+/// sides write into buffers that are used again for each job.
 fn measure(jobs: Vec<Job>) -> (f64, f64) {
     let ready: Vec<Ready> = jobs.iter().map(Ready::new).collect();
-    let (mut jobs, mut ops) = (jobs, Vec::new());
-    let count = jobs.len();
-    let mut rust = || ready.iter().map(|job| black_box(job).run(&mut ops)).sum::<usize>();
-    let mut port = || jobs.iter_mut().map(|job| port::timed(black_box(job))).sum::<usize>();
-    let (repeat_rust, repeat_port) = (repeats(&mut rust), repeats(&mut port));
-    let mut best = (f64::MAX, f64::MAX);
-    for _ in 0..ROUNDS {
-        best.0 = best.0.min(round(&mut rust, repeat_rust));
-        best.1 = best.1.min(round(&mut port, repeat_port));
+    let mut list = Vec::new();
+    let longest = |words: fn(&Job) -> usize| vec![0; jobs.iter().map(words).max().unwrap_or(0)];
+    let (mut spill, mut ops) = (longest(|job| job.spill.len()), longest(|job| job.ops.len()));
+    let mut best = vec![(u128::MAX, u128::MAX); jobs.len()];
+    let (started, mut rounds) = (Instant::now(), 0);
+    while rounds < ROUNDS || started.elapsed() < AT_LEAST {
+        for (job, best) in ready.iter().zip(&mut best) {
+            best.0 = best.0.min(timed(|| black_box(job).run(&mut list)));
+        }
+        for (job, best) in jobs.iter().zip(&mut best) {
+            best.1 = best.1.min(timed(|| port::timed(black_box(job), &mut spill, &mut ops)));
+        }
+        rounds += 1;
     }
-    (best.0 / count as f64, best.1 / count as f64)
+    let count = best.len() as f64;
+    let mean = |side: fn(&(u128, u128)) -> u128| best.iter().map(side).sum::<u128>() as f64 / count;
+    (mean(|best| best.0), mean(|best| best.1))
 }
 
-/// How often all jobs must be run to make a round long enough.
-fn repeats(run: &mut dyn FnMut() -> usize) -> u32 {
-    black_box(run());
+/// The nanoseconds that one call takes.
+fn timed(run: impl FnOnce() -> usize) -> u128 {
     let started = Instant::now();
     black_box(run());
-    let once = started.elapsed().as_nanos().max(1);
-    (ROUND_NANOSECONDS / once).clamp(1, 100_000) as u32
-}
-
-/// The nanoseconds that one run over all jobs takes, on average over a round.
-fn round(run: &mut dyn FnMut() -> usize, repeats: u32) -> f64 {
-    let started = Instant::now();
-    for _ in 0..repeats {
-        black_box(run());
-    }
-    started.elapsed().as_nanos() as f64 / f64::from(repeats)
+    started.elapsed().as_nanos()
 }
 
 /// A job with the limits of today's EVM and room for everything.

@@ -31,7 +31,7 @@ returns-3 : tie.Need-returns-3 Inv-loop μ-loop
 returns-3 c = search (grow-refused, needs)
 
 loop-again : tie.Need-loop-again Inv-loop μ-loop
-loop-again c = (search needs, search needs, search needs, search (grow-again, needs))
+loop-again c = (search needs, search needs, search needs, rw (c .one-by-one .ensures) (search (grow-again, needs)))
 
 pub grow-spec : {M : Type 1} → statement M
 grow-spec =
@@ -51,5 +51,6 @@ grow-spec =
     (λ c. search needs)
     (λ c. search needs)
     returns-3
+    (λ c κs. search needs)
     (λ c. search needs)
     loop-again)

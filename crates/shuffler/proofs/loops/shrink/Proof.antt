@@ -31,7 +31,7 @@ returns-3 : tie.Need-returns-3 Inv-loop μ-loop
 returns-3 c = search (shrink-refused, needs)
 
 loop-again : tie.Need-loop-again Inv-loop μ-loop
-loop-again c = (search needs, search needs, search needs, search (shrink-again, needs))
+loop-again c = (search needs, search needs, search needs, rw (c .one-by-one .ensures) (search (shrink-again, needs)))
 
 pub shrink-spec : {M : Type 1} → statement M
 shrink-spec =
@@ -55,5 +55,6 @@ shrink-spec =
     (λ c. search needs)
     (λ c. search needs)
     returns-3
+    (λ c κs. search needs)
     (λ c. search needs)
     loop-again)

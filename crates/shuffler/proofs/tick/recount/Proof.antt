@@ -5,7 +5,7 @@ use Rattle.shuffler.proofs.tick.recount.Statement.{statement}
 use Rattle.shuffler.proofs.tick.recount.Tie as tie
 
 returns : tie.Need-returns
-returns c = search (recount-is, needs)
+returns c = recount-is _ _ _ (c .before .before .before .before .before .args .p) _ (c .before .fifo .ensures) (c .update-complete-at-bottom .ensures)
 
 pub recount-spec : {M : Type 1} → statement M
 recount-spec =
