@@ -100,7 +100,10 @@ and-then h g = some-laid (then (h .lays) (g .lays))
 pub wrote-long : {l : List ℕ} {at : ℕ} {m : List ℕ} {e : ℕ} → Wrote l at m e → length m ≡ length l
 wrote-long {l} {at} h = ap length (h .lays .bytes-are) ∙ length-sets l at (h .text)
 
-pub ruleset writing = (some-laid, nothing, and-then)
+pub laid-then : {l : List ℕ} {at : ℕ} {t m : List ℕ} {e : ℕ} {l₂ : List ℕ} {e₂ : ℕ} → Lays l at t m e → Wrote m e l₂ e₂ → Wrote l at l₂ e₂
+laid-then h g = and-then (some-laid h) g
+
+pub ruleset writing = (nothing, laid-then, and-then, some-laid)
 
 -- ---- A loop: what is laid, with what is left, is the whole
 

@@ -106,7 +106,7 @@ spelledOp-short : (k a : ℕ) (o : Option Op) → length (spelledOp k a o) ≤ 5
 spelledOp-short k a none = let h = twenty k in let g = twenty a in simp length-append (omega arith)
 spelledOp-short k a (some o) = printed-short o
 
-spelled-short : (k a : ℕ) → length (spelled k a) ≤ 56
+pub spelled-short : (k a : ℕ) → length (spelled k a) ≤ 56
 unfolding spelled
 spelled-short k a = spelledOp-short k a (decoded k a)
 
