@@ -162,9 +162,9 @@ pub fn trace_job(bytes: &[u8], out: &mut [u8]) -> usize
     if read.code != 0 {
         return show_no_job(out, read.code);
     }
-    let from = underlying_spilled(&start, read.starts);
-    let stored = underlying_spilled(&spilled, read.spills);
-    let to = underlying_spilled(&target, read.targets);
+    let from = words::part(&start, read.starts);
+    let stored = words::part(&spilled, read.spills);
+    let to = words::part(&target, read.targets);
     show_run(out, read, from, stored, to)
 }
 
@@ -179,9 +179,9 @@ pub fn trace_words(bytes: &[u8], words: &[u32], out: &mut [u8]) -> usize
     if read.code != 0 {
         return show_no_job(out, read.code);
     }
-    let from = underlying_spilled(&start, read.starts);
-    let stored = underlying_spilled(&spilled, read.spills);
-    let to = underlying_spilled(&target, read.targets);
+    let from = words::part(&start, read.starts);
+    let stored = words::part(&spilled, read.spills);
+    let to = words::part(&target, read.targets);
     show_list(out, read, from, stored, to, words)
 }
 

@@ -3,6 +3,7 @@ ghost use mathlib.Core.Path.{_≡_};
 ghost use Prim.Native.Nat.{_≤_, min};
 ghost use lib.ListN.{length};
 ghost use lib.Seq.{paste};
+ghost use Rattle.scope.specs.Tracked.{storedIn};
 
 // Copies words from the low end of one buffer to that of another, as many as both have.
 pub(crate) fn copy(from: &[u32], to: &mut [u32])
@@ -14,6 +15,13 @@ pub(crate) fn copy(from: &[u32], to: &mut [u32])
         to[i] = from[i];
         i += 1;
     }
+}
+
+// So many words of a list's buffer, all of them where more are asked for.
+pub(crate) fn part<'a>(words: &'a [u32; 4096], n: usize) -> &'a [u32]
+    ensures { λ r. ⌜ now r ≡ storedIn n (now (words .entry)) ⌝ }
+{
+    tracked::underlying_spilled(words, n)
 }
 
 // The bytes up to the first line's end, with it.
