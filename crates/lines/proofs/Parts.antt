@@ -1,13 +1,13 @@
 -- The text of each part, case by case: what the code lays is what the definition says.
-use Prim.Native.Nat.{ℕ, zero, suc, _+_, _-_, _≤_, _<_, min}
+use Prim.Native.Nat.{ℕ, suc, _+_, _-_, _≤_, _<_, min}
 use native.Mathlib.Omega.{arith}
 use native.Mathlib.Numerals.{add-one}
-use mathlib.Core.Path.{_≡_, refl, sym, ap, subst, _∙_}
+use mathlib.Core.Path.{_≡_, sym, ap, subst, _∙_}
 use mathlib.Core.Option.{Option, none, some}
 use mathlib.Core.List.{List, [], _∷_, _++_}
 use lib.ListN.{length, getD, take, drop, replicate, length-append, length-take, drop-of-length-le}
 use lib.Seq.{sets, sets-eq, length-sets, take-at, drop-cons, getD-take}
-use borrow.Author.Tests.{lt-ltb, le-ltb, eq-eqb, ne-eqb}
+use borrow.Author.Tests.{lt-ltb, le-ltb, ne-eqb}
 use Rattle.scope.specs.declared.Op.{Op}
 use Rattle.scope.specs.declared.Op.the-variants.{Swap, Dup, Pop, Store, Load}
 use Rattle.scope.specs.Replay.{decoded}
@@ -16,8 +16,8 @@ use Rattle.printing.specs.Promises.{Placed, placed, placedOf}
 use Rattle.printing.specs.declared.Printed.{Printed}
 use Rattle.printing.proofs.Pasting.{placed-fits}
 use Rattle.printing.proofs.Digits.{twenty}
-use Rattle.lines.specs.Promises.{Lays, Wrote, blanks, column, noOperation, spelledOp, spelled, operationColumn, each, restOf, valuesText, slotNumber, slotText, eachSlot, frontOf, slotsText, shownValues, shownSlots}
-use Rattle.lines.proofs.Laying.{none-laid, then, Going, going, goes-on, gone}
+use Rattle.lines.specs.Promises.{Lays, blanks, column, noOperation, spelledOp, spelled, operationColumn, each, restOf, valuesText, slotNumber, slotText, eachSlot, frontOf, slotsText}
+use Rattle.lines.proofs.Laying.{none-laid, then, Going, goes-on, gone}
 
 -- the digits as they lie in a buffer of their own
 digits : (n len : ℕ) (d : List ℕ) (r : Printed) → len ≡ length (decimal n) → placedOf r d ≡ placed (decimal n) 0 (replicate 20 0) → take len d ≡ decimal n

@@ -1,7 +1,6 @@
 -- What a call that lays text into a lent buffer leaves, and the text of each part of a trace.
-use Prim.Native.Nat.{ℕ, zero, suc, _+_, _-_, min}
+use Prim.Native.Nat.{ℕ, suc, _+_, _-_, min}
 use mathlib.Core.Path.{_≡_}
-use mathlib.Core.Bool.{Bool, true, false}
 use mathlib.Core.Option.{Option, none, some}
 use mathlib.Core.List.{List, [], _∷_, _++_}
 use lib.ListN.{length, take, drop, replicate}

@@ -1,11 +1,11 @@
 -- A line that is the same as an operation's form is that operation; a list's words grow at their end.
-use Prim.Native.Nat.{ℕ, suc, _+_, _*_, _/_, _-_, _≤_, _<_, min}
+use Prim.Native.Nat.{ℕ, _+_, _*_, _/_, _-_, _≤_, _<_}
 use native.Mathlib.Omega.{arith}
-use mathlib.Core.Path.{_≡_, refl, sym, ap, subst, _∙_}
+use mathlib.Core.Path.{_≡_, refl, sym, ap, _∙_}
 use mathlib.Core.Bool.{Bool, true, false, true≢false, false≢true}
-use mathlib.Core.List.{List, [], _∷_, _++_}
+use mathlib.Core.List.{List, []}
 use lib.ListN.{length, set, take, drop, replicate, length-set}
-use lib.Seq.{sets, sets-eq, take-at, drop-set-lt, drop-drop}
+use lib.Seq.{sets-eq, take-at, drop-set-lt, drop-drop}
 use Rattle.scope.specs.Words.{sameList}
 use Rattle.scope.proofs.Exact.{same-eq}
 use Rattle.reader.specs.declared.Record.{Record}

@@ -5,8 +5,8 @@ use tracing::trace_job;
 use tracing::trace_list;
 
 // The lines that were made.
-fn write(lines: &[u8; 1310720], len: usize) {
-    if len <= 1310720 {
+fn write(lines: &[u8], len: usize) {
+    if len <= lines.len() {
         io::write_all(STDOUT_FILENO, &lines[..len]);
     }
 }
@@ -19,7 +19,7 @@ fn list(path: &[u8], bytes: &[u8]) {
         return;
     }
     let mut text = [0u8; 131072];
-    let mut lines = [0u8; 1310720];
+    let mut lines = [0u8; 1400000];
     let n = io::read_full(fd, &mut text);
     libc::close(fd);
     let len = trace_list(bytes, &text[..n], &mut lines);
@@ -28,7 +28,7 @@ fn list(path: &[u8], bytes: &[u8]) {
 
 // The run of a job.
 fn run(bytes: &[u8]) {
-    let mut lines = [0u8; 1310720];
+    let mut lines = [0u8; 1400000];
     let len = trace_job(bytes, &mut lines);
     write(&lines, len);
 }

@@ -8,8 +8,13 @@ fn text(t: &[u8]) {
     io::write_all(STDOUT_FILENO, t);
 }
 
-// A file's bytes, as many as the buffer takes.
-fn read(path: &[u8], bytes: &mut [u8; 16421]) -> usize {
+// So many bytes of a buffer, all of them where more are asked for.
+fn front<'a>(bytes: &'a [u8], n: usize) -> &'a [u8] {
+    if n <= bytes.len() { &bytes[..n] } else { bytes }
+}
+
+// A file's bytes, as many as the buffer takes; how many there are.
+fn read(path: &[u8], bytes: &mut [u8]) -> usize {
     let fd = os::open_read(path);
     if fd < 0 {
         os::fail(path);
@@ -21,19 +26,19 @@ fn read(path: &[u8], bytes: &mut [u8; 16421]) -> usize {
 }
 
 // The lines that were made.
-fn write(lines: &[u8; 1310720], len: usize) {
-    if len <= 1310720 {
+fn write(lines: &[u8], len: usize) {
+    if len <= lines.len() {
         io::write_all(STDOUT_FILENO, &lines[..len]);
     }
 }
 
 // The first and the last four hundred bytes of the lines.
-fn write_ends(lines: &[u8; 1310720], len: usize) {
-    if len <= 1310720 {
+fn write_ends(lines: &[u8], len: usize) {
+    if len <= lines.len() {
         if 800 < len {
-            io::write_all(STDOUT_FILENO, &lines[..400]);
-            text(b"\n..\n");
             let from = len - 400;
+            write(lines, 400);
+            text(b"\n..\n");
             io::write_all(STDOUT_FILENO, &lines[from..len]);
         }
     }
@@ -46,7 +51,7 @@ fn job(path: &[u8]) {
     text(path);
     text(b"\n");
     let n = read(path, &mut bytes);
-    let len = trace_job(&bytes[..n], &mut lines);
+    let len = trace_job(front(&bytes, n), &mut lines);
     write(&lines, len);
 }
 
@@ -57,7 +62,7 @@ fn long_job(path: &[u8]) {
     text(path);
     text(b"\n");
     let n = read(path, &mut bytes);
-    let len = trace_job(&bytes[..n], &mut lines);
+    let len = trace_job(front(&bytes, n), &mut lines);
     write_ends(&lines, len);
 }
 
@@ -72,7 +77,7 @@ fn list(path: &[u8], on: &[u8]) {
     text(b"\n");
     let n = read(on, &mut bytes);
     let k = read(path, &mut listed);
-    let len = trace_list(&bytes[..n], &listed[..k], &mut lines);
+    let len = trace_list(front(&bytes, n), front(&listed, k), &mut lines);
     write(&lines, len);
 }
 
@@ -85,7 +90,7 @@ fn words(name: &[u8], on: &[u8], list: &[u32]) {
     text(on);
     text(b"\n");
     let n = read(on, &mut bytes);
-    let len = trace_words(&bytes[..n], list, &mut lines);
+    let len = trace_words(front(&bytes, n), list, &mut lines);
     write(&lines, len);
 }
 

@@ -1,9 +1,9 @@
 -- A turn is the call of its operation; the completed positions are those below the first that differs.
 use Prim.Native.Nat.{ℕ, _+_, _≤_, _<_}
 use native.Mathlib.Omega.{arith}
-use mathlib.Core.Path.{_≡_, refl, sym, ap, subst, _∙_}
+use mathlib.Core.Path.{_≡_, refl, sym, ap, _∙_}
 use mathlib.Core.Bool.{Bool, true, false}
-use mathlib.Core.Option.{Option, none, some}
+use mathlib.Core.Option.{none, some}
 use mathlib.Core.List.{List}
 use Rattle.scope.specs.declared.Op.{Op}
 use Rattle.scope.specs.declared.Op.the-variants.{Swap, Dup, Pop, Store, Load}
@@ -19,7 +19,7 @@ use Rattle.answer.specs.Promises.{said, saidOf}
 use Rattle.answer.specs.declared.Said.{Said}
 use Rattle.answer.specs.declared.Said.the-variants.{Is, Nothing}
 use Rattle.rules.specs.Promises.{countedIn}
-use Rattle.turns.specs.Promises.{oneRecord, leavesSlots, stepOf, stepSaid, Turned, orAll, within, kept, completedIn}
+use Rattle.turns.specs.Promises.{oneRecord, leavesSlots, stepOf, stepSaid, Turned, within, kept, completedIn}
 
 module _ {s : Step} {n : Numbers} {before after words : List ℕ} where
   stepped : {to : Stepped} (spill : List ℕ) → Steps to s n before after words → Turned (leavesSlots to spill) before n after spill

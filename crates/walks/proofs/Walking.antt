@@ -1,6 +1,6 @@
 -- A line is its parts, one after the other; a trace is some text after some text.
 use Prim.Native.Nat.{ℕ, _≤_, _<_}
-use mathlib.Core.Path.{_≡_, refl, ap, subst, _∙_}
+use mathlib.Core.Path.{_≡_, ap, subst, _∙_}
 use mathlib.Core.List.{List, [], _∷_, _++_}
 use lib.ListN.{length}
 use borrow.Author.Tests.{lt-ltb, le-ltb}
@@ -13,7 +13,7 @@ use Rattle.lines.specs.Promises.{Lays, Wrote, turnText, stateText, slotsText}
 use Rattle.lines.proofs.Laying.{then, some-laid, and-then}
 use Rattle.turns.specs.Promises.{stepSaid, Turned, completedIn}
 use Rattle.walks.specs.declared.Walk.{Walk}
-use Rattle.walks.specs.Promises.{filledText, fresh, lineText, OneTurn}
+use Rattle.walks.specs.Promises.{filledText, fresh, OneTurn}
 
 pub filled-more : (first before : ℕ) (slots : List ℕ) {l m l₂ l₃ : List ℕ} {at e e₂ e₃ : ℕ} → before < length slots → Lays l at (32 ∷ 32 ∷ 115 ∷ 108 ∷ 111 ∷ 116 ∷ 115 ∷ []) m e → Lays m e (slotsText first slots) l₂ e₂ → Lays l₂ e₂ (10 ∷ []) l₃ e₃ → Lays l at (filledText first before slots) l₃ e₃
 filled-more first before slots h a b d = rw (lt-ltb before (length slots) h) (then (then a b) d)

@@ -1,3 +1,4 @@
+-- As many bytes as fit are stored; the rest would change nothing.
 use borrow.Author.Needs.{needs}
 use native.Mathlib.Omega.{arith}
 use lib.ListN.{length-take}

@@ -1,3 +1,4 @@
+-- As many blanks as are asked for, eighteen at most.
 use borrow.Author.Needs.{needs}
 use native.Mathlib.Omega.{arith}
 use lib.ListN.{length-take}

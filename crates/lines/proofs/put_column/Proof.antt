@@ -1,3 +1,4 @@
+-- The number, and blanks for what its digits leave of the width.
 use borrow.Author.Needs.{needs}
 use Rattle.lines.proofs.Parts.{column-laid}
 use Rattle.lines.proofs.put_column.Statement.{statement}

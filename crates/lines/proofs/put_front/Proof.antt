@@ -1,3 +1,4 @@
+-- No slot, more than are shown, or neither.
 use borrow.Author.Needs.{needs}
 use Rattle.lines.proofs.Parts.{front-none, front-more, front-all}
 use Rattle.lines.proofs.put_front.Statement.{statement}

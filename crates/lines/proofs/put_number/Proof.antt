@@ -1,3 +1,4 @@
+-- The digits as they lie in a buffer of their own.
 use borrow.Author.Needs.{needs}
 use native.Mathlib.Omega.{arith}
 use lib.ListN.{length-take}

@@ -1,3 +1,4 @@
+-- Kind by kind, the form that the definition gives.
 use borrow.Author.Needs.{needs}
 use Rattle.lines.proofs.Parts.{spelled-swap, spelled-dup, spelled-pop, spelled-no-pop, spelled-store, spelled-load, spelled-none}
 use Rattle.lines.proofs.put_operation.Statement.{statement}

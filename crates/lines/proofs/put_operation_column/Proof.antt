@@ -1,3 +1,4 @@
+-- The form is short enough for the buffer in which it is measured.
 use borrow.Author.Needs.{needs}
 use Rattle.lines.proofs.Parts.{operation-laid}
 use Rattle.lines.proofs.put_operation_column.Statement.{statement}

@@ -1,3 +1,4 @@
+-- No value, all shown, or more.
 use borrow.Author.Needs.{needs}
 use Rattle.lines.proofs.Parts.{rest-none, rest-more, rest-all}
 use Rattle.lines.proofs.put_rest.Statement.{statement}

@@ -1,3 +1,4 @@
+-- The number, and then the value.
 use borrow.Author.Needs.{needs}
 use Rattle.lines.proofs.Parts.{slot-laid}
 use Rattle.lines.proofs.put_slot.Statement.{statement}

@@ -1,8 +1,9 @@
+-- What is laid, with the slots that are left, is the whole.
 use borrow.Author.Needs.{needs}
-use Prim.Native.Nat.{_+_, _-_, _≤_, min}
+use Prim.Native.Nat.{_-_, _≤_}
 use native.Mathlib.Omega.{arith}
 use mathlib.Core.Path.{_≡_}
-use lib.ListN.{length, take, drop}
+use lib.ListN.{length, drop}
 use Rattle.lines.specs.Promises.{eachSlot}
 use Rattle.lines.proofs.Laying.{Going, going}
 use Rattle.lines.proofs.Parts.{slots-on, slots-end}

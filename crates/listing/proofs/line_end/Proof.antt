@@ -1,3 +1,4 @@
+-- The place stays between the start and the end of the text.
 use borrow.Author.Needs.{needs}
 use Prim.Native.Nat.{_-_, _≤_}
 use native.Mathlib.Omega.{arith}

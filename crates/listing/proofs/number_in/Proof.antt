@@ -1,6 +1,6 @@
+-- The place stays inside the line.
 use borrow.Author.Needs.{needs}
 use Prim.Native.Nat.{_-_, _≤_}
-use native.Mathlib.Omega.{arith}
 use lib.ListN.{length}
 use Rattle.listing.proofs.number_in.Statement.{statement}
 use Rattle.listing.proofs.number_in.Tie as tie

@@ -1,3 +1,4 @@
+-- The length is tested before the part is lent.
 use borrow.Author.Needs.{needs}
 use native.Mathlib.Omega.{arith}
 use lib.ListN.{length-take}

@@ -1,3 +1,4 @@
+-- A line that is the same as the form is the form.
 use borrow.Author.Needs.{needs}
 use native.Mathlib.Omega.{arith}
 use lib.ListN.{length-take}

@@ -1,3 +1,4 @@
+-- Each line keeps what holds of the words so far.
 use borrow.Author.Needs.{needs}
 use Prim.Native.Nat.{_+_, _-_, _≤_}
 use native.Mathlib.Omega.{arith}

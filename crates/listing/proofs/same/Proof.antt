@@ -1,3 +1,4 @@
+-- What is left of the two lines gives the whole answer; a turn compares one byte.
 use borrow.Author.Needs.{needs}
 use Prim.Native.Nat.{_-_, _≤_}
 use mathlib.Core.Path.{_≡_, refl}

@@ -1,3 +1,4 @@
+-- There is room for two words where the half of them says so.
 use borrow.Author.Needs.{needs}
 use native.Mathlib.Omega.{arith}
 use lib.ListN.{length-set}

@@ -1,3 +1,4 @@
+-- A line adds one operation, or none.
 use borrow.Author.Needs.{needs}
 use native.Mathlib.Omega.{arith}
 use Rattle.listing.proofs.Reading.{takes-none, takes-one, takes-full, room}

@@ -1,6 +1,5 @@
+-- No text, or one after the other.
 use borrow.Author.Needs.{needs}
-use native.Mathlib.Omega.{arith}
-use lib.ListN.{length-take}
 use Rattle.lines.proofs.Laying.{some-laid, and-then, nothing}
 use Rattle.tracing.proofs.put_fault.Statement.{statement}
 use Rattle.tracing.proofs.put_fault.Tie as tie

@@ -1,3 +1,4 @@
+-- No text where codes 1 to 5 refuse.
 use borrow.Author.Needs.{needs}
 use Rattle.lines.proofs.Laying.{nothing}
 use Rattle.tracing.proofs.put_operations.Statement.{statement}

@@ -1,3 +1,4 @@
+-- Counting from what is kept.
 use borrow.Author.Needs.{needs}
 use Rattle.turns.proofs.Turning.{completed-is}
 use Rattle.turns.proofs.completed.Statement.{statement}

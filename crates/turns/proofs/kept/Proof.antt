@@ -1,7 +1,8 @@
+-- The search from p on gives the whole answer; a turn tests one position.
 use borrow.Author.Needs.{needs}
 use Prim.Native.Nat.{_-_, _≤_}
 use native.Mathlib.Omega.{arith}
-use mathlib.Core.Path.{_≡_, refl, sym, _∙_}
+use mathlib.Core.Path.{_≡_, refl}
 use Rattle.scope.specs.Words.{lowest}
 use Rattle.scope.specs.Rules.{differs}
 use Rattle.turns.specs.Promises.{within}

@@ -1,3 +1,4 @@
+-- Each operation is one call of the tracked stack.
 use borrow.Author.Needs.{needs}
 use Rattle.turns.proofs.Turning.{performing}
 use Rattle.turns.proofs.perform.Statement.{statement}

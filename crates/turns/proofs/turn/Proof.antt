@@ -1,3 +1,4 @@
+-- The words say an operation, or none.
 use borrow.Author.Needs.{needs}
 use Rattle.turns.proofs.Turning.{said-done, said-none}
 use Rattle.turns.proofs.turn.Statement.{statement}

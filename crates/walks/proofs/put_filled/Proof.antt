@@ -1,3 +1,4 @@
+-- A slot was filled, or none.
 use borrow.Author.Needs.{needs}
 use Rattle.walks.proofs.Walking.{filled-more, filled-same}
 use Rattle.walks.proofs.put_filled.Statement.{statement}

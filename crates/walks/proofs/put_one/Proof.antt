@@ -1,3 +1,4 @@
+-- The step, the count and the line, put together.
 use borrow.Author.Needs.{needs}
 use Rattle.walks.proofs.Walking.{one-turn}
 use Rattle.walks.proofs.put_one.Statement.{statement}

@@ -1,3 +1,4 @@
+-- One turn more is some text more.
 use borrow.Author.Needs.{needs}
 use Prim.Native.Nat.{_-_, _≤_}
 use native.Mathlib.Omega.{arith}

@@ -1,3 +1,4 @@
+-- A line is a part of the text.
 use borrow.Author.Needs.{needs}
 use native.Mathlib.Omega.{arith}
 use lib.ListN.{length-take}

@@ -1,3 +1,4 @@
+-- The words copied so far are those pasted so far.
 use borrow.Author.Needs.{needs}
 use Prim.Native.Nat.{_-_, _≤_, min}
 use native.Mathlib.Omega.{arith}
