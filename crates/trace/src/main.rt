@@ -1,6 +1,7 @@
 // Reads one job from standard input and writes its trace; with an argument, the trace of the list in that file. The work is `tracing`'s.
 use libc::STDIN_FILENO;
 use libc::STDOUT_FILENO;
+use tracing::room;
 use tracing::trace_job;
 use tracing::trace_list;
 
@@ -19,7 +20,7 @@ fn list(path: &[u8], bytes: &[u8]) {
         return;
     }
     let mut text = [0u8; 131072];
-    let mut lines = [0u8; 1400000];
+    let mut lines = room();
     let n = io::read_full(fd, &mut text);
     libc::close(fd);
     let len = trace_list(bytes, &text[..n], &mut lines);
@@ -28,7 +29,7 @@ fn list(path: &[u8], bytes: &[u8]) {
 
 // The run of a job.
 fn run(bytes: &[u8]) {
-    let mut lines = [0u8; 1400000];
+    let mut lines = room();
     let len = trace_job(bytes, &mut lines);
     write(&lines, len);
 }

@@ -1,5 +1,6 @@
 // Traces stored jobs, and stored lists on them, one after the other, and writes each one's name and its trace.
 use libc::STDOUT_FILENO;
+use tracing::room;
 use tracing::trace_job;
 use tracing::trace_list;
 use tracing::trace_words;
@@ -47,7 +48,7 @@ fn write_ends(lines: &[u8], len: usize) {
 // The trace of a job.
 fn job(path: &[u8]) {
     let mut bytes = [0u8; 16421];
-    let mut lines = [0u8; 1310720];
+    let mut lines = room();
     text(path);
     text(b"\n");
     let n = read(path, &mut bytes);
@@ -58,7 +59,7 @@ fn job(path: &[u8]) {
 // The same of a long one, cut.
 fn long_job(path: &[u8]) {
     let mut bytes = [0u8; 16421];
-    let mut lines = [0u8; 1310720];
+    let mut lines = room();
     text(path);
     text(b"\n");
     let n = read(path, &mut bytes);
@@ -70,7 +71,7 @@ fn long_job(path: &[u8]) {
 fn list(path: &[u8], on: &[u8]) {
     let mut bytes = [0u8; 16421];
     let mut listed = [0u8; 16421];
-    let mut lines = [0u8; 1310720];
+    let mut lines = room();
     text(path);
     text(b" on ");
     text(on);
@@ -84,7 +85,7 @@ fn list(path: &[u8], on: &[u8]) {
 // The trace of operation words, for those that no text gives.
 fn words(name: &[u8], on: &[u8], list: &[u32]) {
     let mut bytes = [0u8; 16421];
-    let mut lines = [0u8; 1310720];
+    let mut lines = room();
     text(name);
     text(b" on ");
     text(on);

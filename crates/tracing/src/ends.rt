@@ -1,4 +1,6 @@
 // What stands before the operations of a trace, and after them.
+ghost use mathlib.Core.Path.{_≡_};
+ghost use lib.ListN.{length};
 ghost use Rattle.lines.specs.Promises.{Wrote};
 use super::words::line_len;
 use answer::Answer;
@@ -59,11 +61,18 @@ fn put_refusal(out: &mut [u8], at: usize, code: u32) -> usize
     put(out, c, b"\n")
 }
 
+// Zeros for the driver's answer.
+fn answer_room() -> [u8; 221344]
+    ensures { λ r. ⌜ 221344 ≡ length r ⌝ }
+{
+    [0; 221344]
+}
+
 // The first line of the driver's answer.
 fn put_answer_line(out: &mut [u8], at: usize, answer: Answer, words: &[u32]) -> usize
     ensures { λ r. ⌜ Wrote (now (out .entry)) at (now (out .exit)) r ⌝ }
 {
-    let mut text = [0u8; 221344];
+    let mut text = answer_room();
     write_answer(&mut text, answer, words);
     let n = line_len(&text);
     put(out, at, &text[..n])

@@ -1,5 +1,7 @@
 // A trace, on slices: a job's bytes in, and with them nothing or a list of operations; lines for people to read out. The operations are the
 // shuffle's or the list's, the verdict is the checker's, the stacks are the tracked stack's, the counts are counting's.
+ghost use mathlib.Core.Path.{_≡_};
+ghost use lib.ListN.{length};
 ghost use Rattle.lines.specs.Promises.{Wrote};
 use answer::Answer;
 use job::JobRead;
@@ -149,6 +151,13 @@ fn show_no_job(out: &mut [u8], code: u32) -> usize
         slots: 0,
     };
     ends::put_answer(out, 0, answer, &none[..0])
+}
+
+// Zeros for the lines of a trace: room for the longest one, of 4,096 operations, of which 2,048 fill a slot.
+pub fn room() -> [u8; 1400000]
+    ensures { λ r. ⌜ 1400000 ≡ length r ⌝ }
+{
+    [0; 1400000]
 }
 
 // The trace of a job: what the driver does with its bytes.

@@ -12,6 +12,7 @@ pub put-answer-line-spec : {M : Type 1} → statement M
 put-answer-line-spec =
     tie.close
     (tie.spec
+    (λ c κs. search needs)
     (λ c. search needs)
     (λ c κs. search needs)
     (λ c. search needs)
