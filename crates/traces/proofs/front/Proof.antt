@@ -1,0 +1,17 @@
+-- The length is tested before the part is lent.
+use borrow.Author.Needs.{needs}
+use native.Mathlib.Omega.{arith}
+use lib.ListN.{length-take}
+use Rattle.traces.proofs.front.Statement.{statement}
+use Rattle.traces.proofs.front.Tie as tie
+
+slice-aggregate-result : tie.Need-slice-aggregate-result
+slice-aggregate-result c = simp length-take (omega arith)
+
+pub front-spec : {M : Type 1} → statement M
+front-spec =
+    tie.close
+    (tie.spec
+    slice-aggregate-result
+    (λ c. search needs)
+    (λ c. search needs))
