@@ -22,6 +22,7 @@ use Rattle.tracked_state.specs.declared.TrackedState.{TrackedState}
 use Rattle.tracked_state.specs.Promises.{trackedOf}
 use Rattle.shuffler.specs.declared.Answer.{Answer}
 use Rattle.shuffler.specs.declared.Ended.{Ended}
+use Rattle.shuffler.specs.declared.Progress.{Progress}
 use Rattle.shuffler.specs.Held.{Holding}
 use Rattle.shuffler.specs.Runs.{Tells}
 use Rattle.shuffler.specs.Entry.{begins}
@@ -51,19 +52,19 @@ module _ (start spill : List ℕ) (filled first : ℕ) (target : List ℕ) (conf
       (seen-refused (lentPlain start spill filled first target config words) code (answerIn (stoppedAt code) raw) is ne
       (record { is = refl; shrinkTicks = refl; growTicks = refl; ops = refl; slots = refl; stack = rw (fifo-none raw) }))
 
-  pub shuffle-done : (before raw : List ℕ) (made len : ℕ) (raw′ spill′ words′ : List ℕ) (e : Ended) → code ≡ 0
+  pub shuffle-done : (before raw : List ℕ) (made len : ℕ) (p : Progress) (raw′ spill′ words′ : List ℕ) (e : Ended) → code ≡ 0
       → Leaves (madeFrom start) made len before raw
-      → Tells target (config .«max_swap_depth») (config .«max_dup_depth»)
-      (holding raw (record { numbers = record { len = len; first = first; filled = filled; written = 0 }; complete = 0 }) words spill)
+      → p ≡ record { numbers = record { len = len; first = first; filled = filled; written = 0 }; complete = 0 }
+      → Tells target (config .«max_swap_depth») (config .«max_dup_depth») (holding raw p words spill)
       (e .code) (e .«shrink_ticks») (e .«grow_ticks») (holding raw′ (e .progress) words′ spill′) runFrom
       → seenIn (answerIn e raw′) spill′ words′ ≡ shuffleDue (lentPlain start spill filled first target config words)
   unfolding trackedIn
-  shuffle-done before raw made len raw′ spill′ words′ e z l t =
+  shuffle-done before raw made len p raw′ spill′ words′ e z l starts t =
       let lent = lentPlain start spill filled first target config words in
       let pass = passes (config .«max_swap_depth») (length start) (length target) filled (length spill) first (sym is ∙ z) in
       let n : e .progress .numbers .written - 0 ≡ e .progress .numbers .written = omega arith in
       let q = entry-done lent pass refl (sym is ∙ z) (e .code) (e .«shrink_ticks») (e .«grow_ticks») (holding raw′ (e .progress) words′ spill′)
-      (rw (made-is start before raw made len (pass .start) l) at t) in
+      (rw (starts, made-is start before raw made len (pass .start) l) at t) in
       rw n at q
 
 -- ---- of a tracked state
@@ -81,8 +82,8 @@ module _ (s : TrackedState) (spill target : List ℕ) (config : ScheduleConfig) 
 
   module _ (raw′ spill′ words′ : List ℕ) (e : Ended) (z : code ≡ 0)
       (full : length (s .stack .«stack_raw») ≡ 1024)
-      (t : Tells target (config .«max_swap_depth») (config .«max_dup_depth»)
-      (holding (s .stack .«stack_raw») (record { numbers = record { len = s .stack .«stack_len»; first = s .first; filled = s .filled; written = s .written }; complete = 0 }) words spill)
+      (p : Progress) (starts : p ≡ record { numbers = record { len = s .stack .«stack_len»; first = s .first; filled = s .filled; written = s .written }; complete = 0 })
+      (t : Tells target (config .«max_swap_depth») (config .«max_dup_depth») (holding (s .stack .«stack_raw») p words spill)
       (e .code) (e .«shrink_ticks») (e .«grow_ticks») (holding raw′ (e .progress) words′ spill′) runFrom) where
     ok : Passes (config .«max_swap_depth») (s .stack .«stack_len») (length target) (s .filled) (length spill) (s .first)
     ok = passes (config .«max_swap_depth») (s .stack .«stack_len») (length target) (s .filled) (length spill) (s .first) (sym is ∙ z)
@@ -108,11 +109,11 @@ module _ (s : TrackedState) (spill target : List ℕ) (config : ScheduleConfig) 
         ≡ shuffleDue (lentState s spill target config words)
     unfolding trackedIn
     run-done n less =
-        rw less (entry-done (lentState s spill target config words) ok stands (sym is ∙ z) (e .code) (e .«shrink_ticks») (e .«grow_ticks») (holding raw′ (e .progress) words′ spill′) t)
+        rw less (entry-done (lentState s spill target config words) ok stands (sym is ∙ z) (e .code) (e .«shrink_ticks») (e .«grow_ticks») (holding raw′ (e .progress) words′ spill′) (rw starts at t))
 
     pub run-leaves : trackedIn raw′ (e .progress .numbers) ≡ stateDue (lentState s spill target config words)
     unfolding stateDue trackedIn
     run-leaves =
         let lent = lentState s spill target config words in
         let o : codeOf (jobLent lent) (startLent lent) ≡ 0 = sym is ∙ z in
-        rw o (state-done lent ok stands o (e .code) (e .«shrink_ticks») (e .«grow_ticks») (holding raw′ (e .progress) words′ spill′) t)
+        rw o (state-done lent ok stands o (e .code) (e .«shrink_ticks») (e .«grow_ticks») (holding raw′ (e .progress) words′ spill′) (rw starts at t))

@@ -136,6 +136,22 @@ fn refused(code: u32) -> Answer
     }
 }
 
+// Where a run with these numbers starts: nothing is completed yet.
+fn starting(len: u16, first: u32, filled: usize, written: usize) -> Progress
+    ensures { λ r. ⌜ r ≡ record { numbers = record { len = len; first = first; filled = filled; written = written }; complete = 0 } ⌝ }
+{
+    let numbers = Numbers {
+        len,
+        first,
+        filled,
+        written,
+    };
+    Progress {
+        numbers,
+        complete: 0,
+    }
+}
+
 // The shuffle over plain slices, in the words of a stack, whatever they hold: codes 1 to 5, then the run.
 fn shuffle_in(
     raw: &mut [u32; 1024],
@@ -163,16 +179,7 @@ fn shuffle_in(
         return stopped(code);
     }
     let made = stack::lay(raw, start);
-    let numbers = Numbers {
-        len: made.len,
-        first,
-        filled,
-        written: 0,
-    };
-    let p = Progress {
-        numbers,
-        complete: 0,
-    };
+    let p = starting(made.len, first, filled, 0);
     whole::run_from(raw, p, ops, spill, target, config)
 }
 
@@ -234,16 +241,7 @@ pub fn run(
         let answer = refused(code);
         return Finished { answer, state };
     }
-    let numbers = Numbers {
-        len: stack.stack_len,
-        first: state.first,
-        filled: state.filled,
-        written: state.written,
-    };
-    let p = Progress {
-        numbers,
-        complete: 0,
-    };
+    let p = starting(stack.stack_len, state.first, state.filled, state.written);
     let e = whole::run_from(&mut stack.stack_raw, p, ops, spill, target, config);
     let end = e.progress;
     let n = end.numbers;

@@ -16,12 +16,13 @@ returns c = (search (run-refused, needs), (search (run-keeps, needs), record { k
 returns-2 : tie.Need-returns-2
 returns-2 c =
     let b = c .before .before .before .before .before .before .before in
-    let d = b .before .before .before .before in
+    let p = b .before .before .before .before in
+    let d = p .before in
     let code = d .before .job-code .ensures in
     let config = d .before .before .before .before .before .before .args .config in (
-      run-done _ _ _ config _ _ code _ _ _ _ (d .if1 .left) (full (d .before)) (b .run-from .ensures) _ (c .less .ensures),
+      run-done _ _ _ config _ _ code _ _ _ _ (d .if1 .left) (full (d .before)) _ (p .starting .ensures) (b .run-from .ensures) _ (c .less .ensures),
       (
-        run-leaves _ _ _ config _ _ code _ _ _ _ (d .if1 .left) (full (d .before)) (b .run-from .ensures),
+        run-leaves _ _ _ config _ _ code _ _ _ _ (d .if1 .left) (full (d .before)) _ (p .starting .ensures) (b .run-from .ensures),
         run-goes _ _ _ config _ _ code _ (d .if1 .left),
       ),
     )
@@ -34,6 +35,7 @@ run-spec =
     (λ c κs. search needs)
     (λ c κs. search needs)
     returns
+    (λ c κs. search needs)
     (λ c κs. search needs)
     (λ c κs. search needs)
     (λ c. search needs)
