@@ -120,7 +120,7 @@ fn codes() {
     job(b"code3.job");
     job(b"code4.job");
     job(b"code5.job");
-    long_job(b"code10.job");
+    job(b"code10.job");
     long_job(b"code11.job");
     job(b"empty.job");
 }

@@ -106,7 +106,7 @@ fn put_fault(out: &mut [u8], at: usize, v: Verdict, words: &[u32]) -> usize
     let i = lists::least(v.index, 4096);
     let next = read_at(words, 2 * i);
     let end = put_turn(out, at, i, next.kind, next.argument);
-    put(out, end, b"refused\n")
+    put(out, end, b" refused\n")
 }
 
 // A list: the job, the operations before the verdict, the one at fault, the verdict.
