@@ -5,11 +5,9 @@ ghost use mathlib.Core.List.{[], _∷_, _++_};
 ghost use Prim.Native.Nat.{_+_};
 ghost use lib.ListN.{length};
 ghost use Rattle.scope.specs.Stack.{decimal};
-ghost use Rattle.lines.specs.Promises.{Lays, Wrote, blanks, column, noOperation, spelled, restOf, valuesText, frontOf, slotNumber, slotText, slotsText, operationColumn, turnText, stateText, listText};
+ghost use Rattle.lines.specs.Promises.{Lays, blanks, column, noOperation, spelled, restOf, valuesText, frontOf, slotNumber, slotText, slotsText, operationColumn, turnText, stateText, listText};
 use printing::put_bytes;
 use printing::put_decimal;
-
-pub mod codes;
 
 // Bytes as they are.
 pub fn put(out: &mut [u8], at: usize, text: &[u8]) -> usize

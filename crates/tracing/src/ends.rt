@@ -6,11 +6,11 @@ use super::words::line_len;
 use answer::Answer;
 use answer::write_answer;
 use job::JobRead;
-use lines::codes::put_meaning;
 use lines::put;
 use lines::put_label;
 use lines::put_list;
 use lines::put_slots;
+use meanings::put_meaning;
 use replay::Verdict;
 
 // The two limits and the first slot's number.

@@ -1,11 +1,11 @@
 // Document 01's codes by their names, and what each one means.
 ghost use Rattle.lines.specs.Promises.{Wrote};
 
 // A text.
 fn put_text(out: &mut [u8], at: usize, text: &[u8]) -> usize
     ensures { λ r. ⌜ Wrote (now (out .entry)) at (now (out .exit)) r ⌝ }
 {
-    super::put(out, at, text)
+    lines::put(out, at, text)
 }
 
 // The checker's own, 30 to 41.
