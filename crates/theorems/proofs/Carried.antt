@@ -33,6 +33,10 @@ module _ (e : Lent) (o : Shuffled) (p : Shuffles e o) where
   unfolding shuffleDue
   code-is = ap (λ (x : Seen). x .code) p
 
+  pub ticks-are : (o .answer .«shrink_ticks» ≡ due .shrinkTicks) × (o .answer .«grow_ticks» ≡ due .growTicks)
+  unfolding shuffleDue
+  ticks-are = (ap (λ (x : Seen). x .shrinkTicks) p, ap (λ (x : Seen). x .growTicks) p)
+
   pub stack-is : stackIn (o .answer .stack) ≡ stackOf (due .stack)
   unfolding shuffleDue
   stack-is = ap (λ (x : Seen). x .stack) p
@@ -50,9 +54,9 @@ module _ (e : Lent) (o : Shuffled) (p : Shuffles e o) where
   }
 
   -- codes 1 to 5
-  pub due-nothing : (r : ℕ) → codeOf (jobLent e) (startLent e) ≡ suc r → (due .code ≡ suc r) × (due .stack ≡ []) × (due .ops ≡ []) × (due .spilled ≡ [])
+  pub due-nothing : (r : ℕ) → codeOf (jobLent e) (startLent e) ≡ suc r → (due .code ≡ suc r) × (due .stack ≡ []) × (due .ops ≡ []) × (due .spilled ≡ []) × (due .shrinkTicks ≡ 0) × (due .growTicks ≡ 0)
   unfolding shuffle
-  due-nothing r z = rw z (refl, refl, refl, refl)
+  due-nothing r z = rw z (refl, refl, refl, refl, refl, refl)
 
 -- ---- the checker's outcome is the definition's verdict
 

@@ -33,18 +33,31 @@ use Rattle.shuffler.specs.Promises.{lentPlain, lentState, stateDue}
 use Rattle.replay.specs.Promises.{answered}
 use Rattle.theorems.specs.Outcomes.{Shuffled, shows, Shuffles, Checked, finds, Checks, lentAfter, confirmDue, Wrote, OnEvm}
 use Rattle.theorems.proofs.After.{after-shuffle, confirms-success}
-use Rattle.theorems.proofs.Carried.{code-is, stack-is, values-are, wrote, due-nothing, check-code-is, found, answered-by, wrote-once, at-place, on-evm, fault-halts}
+use Rattle.theorems.proofs.Carried.{code-is, ticks-are, stack-is, values-are, wrote, due-nothing, check-code-is, found, answered-by, wrote-once, at-place, on-evm, fault-halts}
 
 -- ---- A job that codes 1 to 5 refuse
 
 -- The answer has that code, zero counts and an empty stack; no word of either buffer is changed.
 pub nothing-is-done : (e : Lent) (o : Shuffled) → Shuffles e o → (r : ℕ) → codeOf (jobLent e) (startLent e) ≡ suc r
-    → (o .answer .code ≡ suc r) × (stackIn (o .answer .stack) ≡ stackOf []) × Wrote e o [] [] × (o .words ≡ e .words) × (o .spill ≡ e .spill)
+    → (o .answer .code ≡ suc r)
+    × (o .answer .«shrink_ticks» ≡ 0)
+    × (o .answer .«grow_ticks» ≡ 0)
+    × (stackIn (o .answer .stack) ≡ stackOf [])
+    × Wrote e o [] []
+    × (o .words ≡ e .words)
+    × (o .spill ≡ e .spill)
 unfolding wordsOf
 nothing-is-done e o p r z =
     let n = due-nothing e o p r z in
-    let w : Wrote e o [] [] = rw (n .2, n .3) at (wrote e o p) in
-    (code-is e o p ∙ n .0, stack-is e o p ∙ ap stackOf (n .1), w, w .words ∙ take-append-drop (2 * e .written) (e .words), w .spill)
+    let w : Wrote e o [] [] = rw (n .2, n .3) at (wrote e o p) in (
+      code-is e o p ∙ n .0,
+      ticks-are e o p .0 ∙ n .4,
+      ticks-are e o p .1 ∙ n .5,
+      stack-is e o p ∙ ap stackOf (n .1),
+      w,
+      w .words ∙ take-append-drop (2 * e .written) (e .words),
+      w .spill,
+    )
 
 -- ---- Demand 3: every other code, 0 and 6 to 12
 
