@@ -1,9 +1,8 @@
 -- What writing an answer leaves. The operations come as words; what words say is said here, for any words.
-use Rattle.std.specs.Prelude.{ℕ, ◌+◌, ◌*◌, ◌≤◌, ◌≡◌, Bool, true, false, List, [], ◌∷◌, ◌++◌, length, replicate, leb, ltb}
+use Rattle.std.specs.Prelude.{ℕ, ◌+◌, ◌*◌, ◌≤◌, ◌≡◌, Bool, true, false, List, [], ◌∷◌, ◌++◌, length, replicate, leb, ltb, if◌then◌else◌}
 use Rattle.std.proofs.Math.Option.{Option, none, some}
 use Rattle.scope.specs.declared.Op.{Op}
 use Rattle.scope.specs.declared.Op.TheVariants.{Swap, Dup, Pop, Store, Load}
-use Rattle.scope.specs.Words.{if◌then◌else◌}
 use Rattle.scope.specs.Machine.{record_words, gas_of}
 use Rattle.scope.specs.Shuffle.{Result}
 use Rattle.scope.specs.Replay.{decoded}

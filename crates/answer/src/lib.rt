@@ -1,4 +1,6 @@
 // The lines that answer a job, as bytes in a lent buffer.
+#![tactic(auto)]
+
 ghost use Rattle.std.specs.Prelude.{◌≡◌, ◌+◌, ◌*◌, ◌≤◌, length};
 ghost use Rattle.scope.specs.Stack.{decimal, printed};
 ghost use Rattle.printing.specs.Promises.{Laid};
@@ -9,7 +11,7 @@ use printing::{Printed, print_op, printed_len, put_bytes, put_decimal};
 use scope::{Op, StackOps};
 
 // The numbers of an answer, but for the count and the gas of the operations, which their words tell.
-#[derive(Drop)]
+#[derive(Clone, Copy)]
 pub struct Answer {
     pub code: u32,
     pub shrink_ticks: u32,
@@ -19,7 +21,7 @@ pub struct Answer {
 
 // What writing an answer answers: how many bytes it wrote; or that they do not fit; or that the words are not whole operations, or
 // more than the driver lends. Refused, nothing was written.
-#[derive(Drop)]
+#[derive(Clone, Copy)]
 pub enum Written {
     Wrote(usize),
     NoRoom,
@@ -27,14 +29,14 @@ pub enum Written {
 }
 
 // The operation that two words say, if they say one.
-#[derive(Drop)]
+#[derive(Clone, Copy)]
 pub enum Said {
     Is(Op),
     Nothing,
 }
 
 // What the operations of a list of words come to: the bytes of their lines, and their gas.
-#[derive(Drop)]
+#[derive(Clone, Copy)]
 struct Measured {
     len: usize,
     gas: u64,

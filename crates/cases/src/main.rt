@@ -1,4 +1,6 @@
 // Puts stored jobs to the driver's work, one after the other, and writes each one's name and the lines that answer it.
+#![tactic(auto)]
+
 use answer::Written;
 use driving::answer_job;
 use libc::STDOUT_FILENO;

@@ -1,4 +1,6 @@
 // Reads one job from standard input and writes the lines that answer it. The work is `driving`'s.
+#![tactic(auto)]
+
 use answer::Written;
 use driving::answer_job;
 use libc::{STDIN_FILENO, STDOUT_FILENO};

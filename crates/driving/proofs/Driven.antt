@@ -1,4 +1,5 @@
 -- The driver's three calls, put together: what was read is the job, what the shuffle leaves is the result's, and its words are operations.
+use Rattle.std.specs.Prelude.{if◌then◌else◌}
 use Prim.Native.Nat.{ℕ, zero, suc, ◌+◌, ◌-◌, ◌*◌, ◌/◌, ◌≤◌, ◌<◌}
 use native.Mathlib.Omega.{arith}
 use mathlib.Core.Path.{◌≡◌, refl, sym, ap, ◌∙◌}
@@ -11,7 +12,7 @@ use lib.Dec.{eqb, leb, ltb}
 use borrow.Author.Tests.{ltb-false, le-leb}
 use Rattle.scope.specs.declared.Op.{Op}
 use Rattle.scope.specs.declared.Op.TheVariants.{Swap, Dup, Pop, Store, Load}
-use Rattle.scope.specs.Words.{if◌then◌else◌, if_zero, Stack, stack_of}
+use Rattle.scope.specs.Words.{if_zero, Stack, stack_of}
 use Rattle.scope.specs.Machine.{over, words_of}
 use Rattle.scope.specs.Rules.{Job}
 use Rattle.scope.specs.Shuffle.{Start, start_of, code_of, Result, result, started, run_from, shuffle}

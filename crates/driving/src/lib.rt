@@ -1,4 +1,6 @@
 // The driver's work, on slices: a job's bytes in, the lines of its answer out.
+#![tactic(auto)]
+
 ghost use Rattle.std.specs.Prelude.{◌≡◌};
 ghost use Rattle.answer.specs.Promises.{written_of};
 ghost use Rattle.driving.specs.Promises.{prints};

@@ -1,4 +1,6 @@
 // The shuffle of a tracked state that is lent: 000's `run`, which changes the state in place.
+#![tactic(auto)]
+
 ghost use Rattle.shuffler.specs.Promises.{lent_state};
 ghost use Rattle.entry.specs.Promises.{Entered};
 

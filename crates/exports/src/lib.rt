@@ -1,4 +1,6 @@
 // The C interface. A slice is a pointer and then a length; a struct by value is laid out as C lays it out.
+#![tactic(auto)]
+
 ghost use Rattle.std.specs.Prelude.{◌≡◌};
 ghost use Rattle.scope.specs.Once.{shuffle_due, check_due};
 ghost use Rattle.shuffler.specs.Promises.{seen_in, lent_plain, lent_state};

@@ -1,19 +1,21 @@
 // Places on a stack (001). A stack is a slice, top first: a depth counts from the top, a position from the bottom, and the two meet
 // only through the conversions here. Every function answers for every input; a place outside is said where it is asked for.
+#![tactic(auto)]
+
 ghost use Rattle.std.specs.Prelude.{◌≡◌, ◌-◌};
 ghost use Rattle.scope.specs.Words.{◌at◌, ◌from◌};
 ghost use Rattle.indices.specs.Promises.{sided};
 
 // A depth: 0 is the top.
-#[derive(Drop)]
+#[derive(Clone, Copy)]
 pub struct FromTop(pub usize);
 
 // A position: 0 is the bottom.
-#[derive(Drop)]
+#[derive(Clone, Copy)]
 pub struct FromBottom(pub usize);
 
 // Which of the two stacks is meant.
-#[derive(Drop)]
+#[derive(Clone, Copy)]
 pub enum Side {
     Current,
     Target,

@@ -1,11 +1,13 @@
 // The driver's job, read from its bytes into lent words.
+#![tactic(auto)]
+
 ghost use Rattle.std.specs.Prelude.{◌≡◌, ◌+◌, ◌*◌, ◌≤◌, length};
 ghost use Rattle.scope.specs.Machine.{over};
 ghost use Rattle.scope.specs.JobFile.{word_at, words_at, is_job, parsed};
 ghost use Rattle.job.specs.Promises.{read_into, read_of};
 
 // What reading a job answers: 0, how many words each list has, the first slot and the two limits; or 13 and zeros.
-#[derive(Drop)]
+#[derive(Clone, Copy)]
 pub struct JobRead {
     pub code: u32,
     pub starts: usize,

@@ -1,10 +1,9 @@
 -- What a call that lays text into a lent buffer leaves, and the text of each part of a trace.
-use Rattle.std.specs.Prelude.{ℕ, suc, ◌+◌, ◌-◌, min, ◌≡◌, List, [], ◌∷◌, ◌++◌, length, take, drop, replicate, eqb, ltb}
+use Rattle.std.specs.Prelude.{ℕ, suc, ◌+◌, ◌-◌, min, ◌≡◌, List, [], ◌∷◌, ◌++◌, length, take, drop, replicate, eqb, ltb, if◌then◌else◌}
 use Rattle.std.proofs.Math.Option.{Option, none, some}
 use Rattle.std.proofs.lemmas.List.Edits.{sets}
 use Rattle.scope.specs.declared.Op.{Op}
 use Rattle.scope.specs.Codes.{MAX-GAS}
-use Rattle.scope.specs.Words.{if◌then◌else◌}
 use Rattle.scope.specs.Replay.{decoded}
 use Rattle.scope.specs.Stack.{decimal, printed, stack_op}
 

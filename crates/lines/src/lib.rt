@@ -1,5 +1,7 @@
 // The parts of a trace as text in a lent buffer. Each call lays its text from a place on, as far as the buffer goes, and answers the place
 // after it; every other byte is as it was lent.
+#![tactic(auto)]
+
 ghost use Rattle.std.specs.Prelude.{◌≡◌, [], ◌∷◌, ◌++◌, ◌+◌, length};
 ghost use Rattle.scope.specs.Stack.{decimal};
 ghost use Rattle.lines.specs.Promises.{Lays, blanks, column, no_operation, spelled, rest_of, values_text, front_of, slot_number, slot_text, slots_text, operation_column, turn_text, state_text, list_text};

@@ -1,4 +1,6 @@
 // A list of operations as text, in the driver's printed form, read into operation words.
+#![tactic(auto)]
+
 ghost use Rattle.std.specs.Prelude.{◌≡◌, ◌+◌, ◌*◌, ◌≤◌, length};
 ghost use Rattle.scope.specs.Words.{same_list};
 ghost use Rattle.listing.specs.Promises.{ReadAs, Stored, Lists, Takes};
@@ -8,7 +10,7 @@ use reader::Record;
 
 // What reading a list answers: how many operations; and the line that is none, counted from 1, or 0 where each line was read. `full` says
 // that the line is an operation for which there is no room.
-#[derive(Drop)]
+#[derive(Clone, Copy)]
 pub struct Listed {
     pub ops: usize,
     pub line: usize,
@@ -136,7 +138,7 @@ fn store(words: &mut [u32], ops: usize, o: Record) -> bool
 }
 
 // What taking a line answers: how many operations there are then; whether the line is refused, and whether for want of room.
-#[derive(Drop)]
+#[derive(Clone, Copy)]
 struct Took {
     ops: usize,
     refused: bool,

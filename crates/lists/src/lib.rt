@@ -1,4 +1,6 @@
 // Walks over a slice, and arithmetic on lengths. Every function here answers for every input.
+#![tactic(auto)]
+
 ghost use Rattle.std.specs.Prelude.{◌≡◌, ◌+◌, ◌-◌, ◌≤◌, ◌<◌, min, max, length};
 ghost use Rattle.scope.specs.Words.{◌∈◌, count, first_of, latest_of, same_list, highest, holds};
 ghost use Rattle.scope.specs.Stack.{found_of};

@@ -1,4 +1,6 @@
 // Document 01's codes by their names, and what each one means.
+#![tactic(auto)]
+
 ghost use Rattle.lines.specs.Promises.{Wrote};
 
 // A text.

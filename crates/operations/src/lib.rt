@@ -1,4 +1,6 @@
 // What 002 knows of an operation and of its settings: the words, the gas, the limits.
+#![tactic(auto)]
+
 ghost use Rattle.std.specs.Prelude.{◌≡◌};
 ghost use Rattle.scope.specs.Machine.{kind, argument, gas_of};
 ghost use Rattle.scope.specs.Stack.{pre_amsterdam, no_exchange, is_valid};
@@ -8,7 +10,7 @@ ghost use Rattle.operations.specs.Promises.{config_of, configured_of};
 use scope::{Op, StackOps};
 
 // The settings of a schedule: how deep a swap and a dup may reach, how far an exchange, and what one costs.
-#[derive(Drop)]
+#[derive(Clone, Copy)]
 pub struct ScheduleConfig {
     pub max_swap_depth: u8,
     pub max_dup_depth: u8,
@@ -17,7 +19,7 @@ pub struct ScheduleConfig {
 }
 
 // What making settings answers: 0 with the settings, or the code of the refusal with all of them 0.
-#[derive(Drop)]
+#[derive(Clone, Copy)]
 pub struct Configured {
     pub code: u32,
     pub config: ScheduleConfig,

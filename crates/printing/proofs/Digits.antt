@@ -1,4 +1,5 @@
 -- A number's digits without the fuel: the last digit, and before it the digits of a tenth.
+use Rattle.std.specs.Prelude.{if◌then◌else◌}
 use Prim.Native.Nat.{ℕ, zero, suc, ◌+◌, ◌-◌, ◌/◌, ◌%◌, ◌^◌, ◌≤◌, ◌<◌}
 use native.Mathlib.Omega.{arith}
 use native.Mathlib.Nat.{pow-suc, div-lt_iff_lt-mul}
@@ -9,7 +10,6 @@ use lib.ListN.{length, set, length-append}
 use lib.Seq.{sets}
 use lib.Dec.{ltb, lit<}
 use borrow.Author.Tests.{lt-ltb, le-ltb}
-use Rattle.scope.specs.Words.{if◌then◌else◌}
 use Rattle.scope.specs.Stack.{decimal_in, decimal}
 use Rattle.printing.proofs.Pasting.{last-first}
 

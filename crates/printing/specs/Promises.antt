@@ -1,8 +1,7 @@
 -- What printing into a lent buffer leaves: how many bytes, and every byte of the buffer.
-use Rattle.std.specs.Prelude.{ℕ, ◌+◌, ◌≡◌, List, length, leb}
+use Rattle.std.specs.Prelude.{ℕ, ◌+◌, ◌≡◌, List, length, leb, if◌then◌else◌}
 use Rattle.std.proofs.Math.Option.{Option, none, some}
 use Rattle.std.proofs.lemmas.List.Edits.{sets}
-use Rattle.scope.specs.Words.{if◌then◌else◌}
 use Rattle.scope.specs.Machine.{over_from}
 use Rattle.printing.specs.declared.Printed.{Printed}
 use Rattle.printing.specs.declared.Printed.TheVariants.{Wrote, NoRoom}

@@ -1,4 +1,6 @@
 // The printed form of an operation, and of the numbers in it, as bytes in a lent buffer.
+#![tactic(auto)]
+
 ghost use Rattle.std.specs.Prelude.{◌≡◌, ◌++◌, ◌+◌, ◌%◌, ◌≤◌, length, leb};
 ghost use Rattle.scope.specs.Stack.{decimal, printed};
 ghost use Rattle.scope.specs.declared.StackOps.TheVariants.{Exchange};
@@ -7,7 +9,7 @@ ghost use Rattle.printing.specs.Promises.{Laid, placed, placed_of};
 use scope::StackOps;
 
 // What printing into a lent buffer answers: how many bytes it wrote, or that they do not fit and nothing was written.
-#[derive(Drop)]
+#[derive(Clone, Copy)]
 pub enum Printed {
     Wrote(usize),
     NoRoom,

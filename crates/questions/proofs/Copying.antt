@@ -1,4 +1,5 @@
 -- What (v) asks, return by return: a value that needs another copy, and where it stands first.
+use Rattle.std.specs.Prelude.{if◌then◌else◌}
 use Prim.Native.Nat.{ℕ, zero, suc, ◌+◌, ◌-◌, ◌<◌, ◌≤◌}
 use native.Mathlib.Omega.{arith}
 use native.Mathlib.Decide.{dec_lt}
@@ -13,7 +14,7 @@ use lib.Dec.{eqb}
 use borrow.Author.Tests.{eqb-true, eqb-false, lt-ltb, le-ltb}
 use Rattle.scope.specs.declared.Found.{Found}
 use Rattle.scope.specs.declared.Found.TheVariants.{At, Nothing}
-use Rattle.scope.specs.Words.{if◌then◌else◌, ◌∈◌, count, holds, first_of, ◌at◌, ◌from◌}
+use Rattle.scope.specs.Words.{◌∈◌, count, holds, first_of, ◌at◌, ◌from◌}
 use Rattle.scope.specs.Stack.{found_of}
 use Rattle.scope.specs.Rules.{needs_copy}
 use Rattle.scope.proofs.Walks.{Lowest, lowest-some, lowest-none, in_take, count-hit, count-miss}

@@ -1,7 +1,7 @@
 -- What the questions' answers say, in scope's words.
-use Rattle.std.specs.Prelude.{ℕ, List, []}
+use Rattle.std.specs.Prelude.{ℕ, List, [], if◌then◌else◌}
 use Rattle.std.proofs.Math.Option.{Option, none}
-use Rattle.scope.specs.Words.{if◌then◌else◌, first_of, ◌at◌}
+use Rattle.scope.specs.Words.{first_of, ◌at◌}
 use Rattle.scope.specs.Rules.{Asked, yes, no, outside, differs, giver, needs_copy, may_push}
 use Rattle.questions.specs.declared.Answer.{Answer}
 use Rattle.questions.specs.declared.Answer.TheVariants.{Yes, No, Outside}

@@ -1,5 +1,7 @@
 // What the step rules (000) ask of the current stack and the target. Every answer is scope's definition of the same name; every function
 // answers for every input. The stacks are slices, top first; complete is the number of completed positions; swaps and dups are the limits.
+#![tactic(auto)]
+
 ghost use Rattle.std.specs.Prelude.{◌≡◌, ◌-◌, max, get_or};
 ghost use Rattle.scope.specs.Rules as R;
 
@@ -10,7 +12,7 @@ pub mod push;
 pub mod shrink;
 
 // The push test's answers. Outside: the target has no value at the horizon.
-#[derive(Drop)]
+#[derive(Clone, Copy)]
 pub enum Answer {
     Yes,
     No,

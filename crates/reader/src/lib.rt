@@ -1,15 +1,17 @@
 // A reader over operation words: it keeps the slice and its place. A word that is not there reads as 0.
+#![tactic(auto)]
+
 ghost use Rattle.std.specs.Prelude.{◌≡◌};
 ghost use Rattle.reader.specs.Promises.{record_at};
 
 // An operation's two words.
-#[derive(Drop)]
+#[derive(Clone, Copy)]
 pub struct Record {
     pub kind: u32,
     pub argument: u32,
 }
 
-#[derive(Drop)]
+#[derive(Clone, Copy)]
 pub struct Reader<'a> {
     pub words: &'a [u32],
     pub at: usize,

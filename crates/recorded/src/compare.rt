@@ -7,7 +7,7 @@ use printing::Printed;
 use scope::Op;
 
 // What came of a record: the code that was recorded, and whether the answer is the one recorded.
-#[derive(Drop)]
+#[derive(Clone, Copy)]
 pub(crate) struct Outcome {
     pub code: u32,
     pub agrees: bool,

@@ -1,4 +1,6 @@
 // Puts the recorded jobs to the driver's work and compares every line that it writes with what the original Rust answered.
+#![tactic(auto)]
+
 use compare::Outcome;
 use libc::STDOUT_FILENO;
 
@@ -6,7 +8,7 @@ mod compare;
 mod packed;
 
 // What came of the classes so far: their jobs, and how many were answered otherwise than recorded.
-#[derive(Drop)]
+#[derive(Clone, Copy)]
 struct Tally {
     jobs: u32,
     differ: u32,

@@ -1,4 +1,5 @@
 -- The whole list: what is left to replay from here gives the verdict of the whole; and the tests before it.
+use Rattle.std.specs.Prelude.{if◌then◌else◌}
 use Prim.Native.Nat.{ℕ, zero, suc, ◌+◌, ◌-◌, ◌*◌, ◌/◌, ◌%◌, ◌≤◌, ◌<◌, min}
 use native.Mathlib.Omega.{arith}
 use native.Mathlib.Numerals.{add-one}
@@ -10,7 +11,7 @@ use lib.Seq.{drop-cons, drop-drop, length-take-le}
 use lib.Dec.{eqb, leb, ltb}
 use borrow.Author.Tests.{ltb-false, le-leb, lt-leb, lt-ltb, le-ltb, eq-eqb, ne_eqb}
 use Rattle.scope.proofs.JobCodes.{Passes, passes}
-use Rattle.scope.specs.Words.{if◌then◌else◌, if_zero, same_list}
+use Rattle.scope.specs.Words.{if_zero, same_list}
 use Rattle.scope.specs.Machine.{over}
 use Rattle.scope.specs.Rules.{Job}
 use Rattle.scope.specs.Shuffle.{job_code}

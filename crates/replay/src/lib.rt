@@ -1,4 +1,6 @@
 // The replay checker: a list of operation words, from anywhere, is replayed on a start stack; the first fault is the verdict.
+#![tactic(auto)]
+
 ghost use Rattle.std.specs.Prelude.{◌≡◌, ◌+◌, ◌≤◌, ◌%◌, min, length};
 ghost use Rattle.scope.specs.Words.{same_list};
 ghost use Rattle.scope.specs.Machine.{record_words};
@@ -15,7 +17,7 @@ use stack::EvmStack;
 
 // The code, the index of the operation at fault (their count where there is none), the gas of those replayed, the slots filled.
 #[repr(C)]
-#[derive(Drop)]
+#[derive(Clone, Copy)]
 pub struct Verdict {
     pub code: u32,
     pub index: usize,
@@ -24,7 +26,7 @@ pub struct Verdict {
 }
 
 // The numbers that bound an operation.
-#[derive(Drop)]
+#[derive(Clone, Copy)]
 pub(crate) struct Limits {
     pub(crate) max_swap_depth: u8,
     pub(crate) max_dup_depth: u8,
@@ -32,7 +34,7 @@ pub(crate) struct Limits {
 }
 
 // What one operation comes to: a code, the stack's length and the slots filled after it, its gas.
-#[derive(Drop)]
+#[derive(Clone, Copy)]
 pub(crate) struct Turn {
     pub(crate) code: u32,
     pub(crate) len: u16,

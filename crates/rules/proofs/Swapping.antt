@@ -1,4 +1,5 @@
 -- (b), (d), (x): the search's answer is the depth of the swap.
+use Rattle.std.specs.Prelude.{if◌then◌else◌}
 use Prim.Native.Nat.{ℕ, ◌+◌, ◌-◌, ◌<◌, ◌≤◌, min, max}
 use native.Mathlib.Omega.{arith}
 use mathlib.Core.Path.{◌≡◌, refl, ap}
@@ -8,7 +9,7 @@ use mathlib.Core.List.{List}
 use lib.ListN.{length, get_or}
 use Rattle.scope.specs.declared.Found.{Found}
 use Rattle.scope.specs.declared.Found.TheVariants.{At, Nothing}
-use Rattle.scope.specs.Words.{if◌then◌else◌, lowest, found, ◌at◌}
+use Rattle.scope.specs.Words.{lowest, found, ◌at◌}
 use Rattle.scope.specs.Stack.{found_of}
 use Rattle.scope.specs.Rules.{differs, wants_top, extra, extra_at, giver, can_be_set_right, rule_b, rule_d, rule_x}
 use Rattle.scope.proofs.Walks.{lowest-some, lowest-found, lowest-again, lowest-out}

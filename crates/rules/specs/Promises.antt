@@ -1,8 +1,7 @@
 -- What a choice means: the plan that it stands for, and that it can be performed. What each rule's function promises of its choice.
-use Rattle.std.specs.Prelude.{ℕ, ◌+◌, ◌<◌, ◌≤◌, Bool, true, false, List, [], ◌∷◌, ◌++◌, ◌≡◌, length, eqb}
+use Rattle.std.specs.Prelude.{ℕ, ◌+◌, ◌<◌, ◌≤◌, Bool, true, false, List, [], ◌∷◌, ◌++◌, ◌≡◌, length, eqb, if◌then◌else◌}
 use Rattle.scope.specs.declared.Op.{Op}
 use Rattle.scope.specs.declared.Op.TheVariants.{Swap, Dup, Pop, Store, Load}
-use Rattle.scope.specs.Words.{if◌then◌else◌}
 use Rattle.scope.specs.Rules.{Job, State, Plan, write, refuse, pass, ◌▹◌, load, counted, rule_a, rule_b, rule_c, rule_d, rule_e, rule_f, rule_x, rule_u, rule_v, rule_w, store_unless_push}
 use Rattle.rules.specs.declared.Choice.{Choice}
 use Rattle.rules.specs.declared.Choice.TheVariants.{Pass, Pop as PopTop, Swap as SwapTop, SwapPop, Swaps, Store as StoreTop, Load as LoadSlot, Dup as DupDepth, Refuse}

@@ -1,5 +1,7 @@
 // The step rules (000). They choose and change nothing: a rule answers what it would do, and passes where it does not apply.
 // The current stack and the target are slices, top first; complete is the number of completed positions; swaps and dups are the limits.
+#![tactic(auto)]
+
 ghost use Rattle.std.specs.Prelude.{◌≡◌, ◌-◌, ◌≤◌};
 ghost use Rattle.rules.specs.Promises as K;
 
@@ -10,7 +12,7 @@ pub mod grow;
 pub mod shrink;
 
 // What a tick is to do: nothing of this rule, at most two operations, or a refusal. A swap names a depth, a load the index of its slot.
-#[derive(Drop)]
+#[derive(Clone, Copy)]
 pub enum Choice {
     Pass,
     Pop,

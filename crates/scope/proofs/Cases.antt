@@ -2,11 +2,11 @@
 use mathlib.Core.Path.{◌≡◌, refl}
 use mathlib.Core.List.{map}
 use Rattle.scope.specs.Words.{◌∈◌, count, same_list, seek, lowest, highest, holds, first_of, latest_of}
-use Rattle.scope.specs.Machine.{words_of, gas_total}
+use Rattle.scope.specs.Machine.{words_of}
 use Rattle.scope.specs.Rules.{differs, wants_top, extra, extra_at, gives_for, giver, can_be_set_right, needs_copy, out_of_reach, counting_stops, safe_to_bury, load, store, counted, rule_a, rule_b, rule_c, rule_d, rule_e, rule_f, shrink_plan, rule_x, may_push, store_unless_push, rule_u, rule_v, rule_w, grow_plan}
 use Rattle.scope.specs.Shuffle.{perform, loop, shrink, grow, finish, run_from, shuffle}
 use Rattle.scope.specs.Replay.{replay_from, replay}
-use Rattle.scope.specs.Cases.{Row, Telling, Judgement, Outcome, outcome, table, tellings, judgements}
+use Rattle.scope.specs.Cases.{Row, Telling, Judgement, outcome, table, tellings, judgements}
 
 -- Cases A to L: result, verdict and gas of every row, in one statement.
 pub cases-hold : map (λ (r : Row). outcome r.job r.start) table ≡ map (λ (r : Row). r.expected) table

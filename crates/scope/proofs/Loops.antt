@@ -1,16 +1,14 @@
 -- One turn of a loop, one operation of a list: what is left to do still gives the whole answer.
-use Prim.Native.Nat.{ℕ, zero, suc, ◌+◌, ◌-◌, ◌*◌, ◌≤◌, ◌<◌}
+use Prim.Native.Nat.{ℕ, zero, suc, ◌+◌, ◌-◌, ◌≤◌, ◌<◌}
 use native.Mathlib.Omega.{arith}
 use native.Mathlib.Numerals.{add-one}
-use mathlib.Core.Path.{◌≡◌, refl, sym, ap, ◌∙◌}
+use mathlib.Core.Path.{◌≡◌, refl}
 use mathlib.Core.Bool.{Bool, true, false}
 use mathlib.Core.List.{List, [], ◌∷◌, ◌++◌}
-use lib.ListN.{length, get_or, drop}
-use lib.Seq.{drop-cons}
 use Rattle.scope.specs.declared.Op.{Op}
-use Rattle.scope.specs.Words.{if◌then◌else◌, if_zero}
+use Rattle.scope.specs.Words.{if_zero}
 use Rattle.scope.specs.Rules.{Job, State, Plan, write, refuse, pass}
-use Rattle.scope.specs.Shuffle.{refusal, after, Ended, ended, perform, carry_out, recount, loop}
+use Rattle.scope.specs.Shuffle.{refusal, after, ended, perform, carry_out, recount, loop}
 
 -- one turn of a loop with at most 100,000 ticks, k of which have passed
 module _ (j : Job) (goes : State → Bool) (plan : State → Plan) (k : ℕ) (s : State) where

@@ -1,26 +1,25 @@
 -- A legal Swap, Dup or Pop does what its instruction does on the Yellow Paper's machine, item by item; where the checker refuses one for the stack's sake, the machine halts.
+use Rattle.std.specs.Prelude.{if◌then◌else◌}
 use Prim.Native.Nat.{ℕ, zero, suc, ◌+◌, ◌-◌, ◌≤◌, ◌<◌}
 use native.Mathlib.Omega.{arith}
-use native.Mathlib.Numerals.{add-one}
 use native.Mathlib.Decide.{ℕ_discrete}
-use mathlib.Core.Path.{◌≡◌, refl, sym, ap, ◌∙◌, subst}
+use mathlib.Core.Path.{◌≡◌, refl, sym, ◌∙◌}
 use mathlib.Core.Logic.{◌≢◌, ◌↔◌}
 use mathlib.Core.Bool.{Bool, true, false, ◌||◌}
-use mathlib.Core.List.{List, [], ◌∷◌, ◌++◌}
+use mathlib.Core.List.{List, ◌∷◌}
 use lib.ListN.{length, get_or, set, drop, length-set, length-drop}
 use lib.Seq.{ext_get_or, get_or-set_same, get_or-set_other, get_or-drop}
 use lib.Dec.{eqb, leb, ltb}
-use borrow.Author.Tests.{leb-true, leb-false, ltb-true, ltb-false, eqb-true, eqb-false, eq-eqb, ne_eqb, lt-leb, le-leb, lt-ltb, le-ltb}
+use borrow.Author.Tests.{leb-true, leb-false, eqb-true, eqb-false, eq-eqb, ne_eqb, le-leb, le-ltb}
 use Rattle.scope.proofs.Branches.{tested}
 use Rattle.scope.specs.declared.Op.{Op}
 use Rattle.scope.specs.declared.Op.TheVariants.{Swap, Dup, Pop, Store, Load}
-use Rattle.scope.specs.Words.{if◌then◌else◌}
-use Rattle.scope.specs.Machine.{stack_after, spilled_after, swapped}
+use Rattle.scope.specs.Machine.{swapped}
 use Rattle.scope.specs.Rules.{Job}
 use Rattle.scope.specs.Replay.{op_fault}
 use Rattle.scope.specs.Legal.{Legal, Runs, stop, next}
 use Rattle.scope.proofs.Exact.{fine}
-use Rattle.scope.specs.Evm.{Instr, POP, DUP, SWAP, δ, α, Halts, underflow, overflow, item, Does, Executes, end, and, Codes, swap, dup, pop, AllCode, none, one}
+use Rattle.scope.specs.Evm.{Instr, POP, DUP, SWAP, Halts, underflow, overflow, item, Does, Executes, end, and, Codes, swap, dup, pop, AllCode, none, one}
 
 -- what an instruction leaves is determined
 pub does-once : (i : Instr) (s s' s'' : List ℕ) → Does i s s' → Does i s s'' → s' ≡ s''

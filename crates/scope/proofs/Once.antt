@@ -1,8 +1,6 @@
 -- A promise that is one equation determines what is seen of an outcome.
-use Prim.Native.Nat.{ℕ, ◌≤◌, ◌<◌}
-use mathlib.Core.Path.{◌≡◌, refl, sym, ap, ◌∙◌}
-use mathlib.Core.List.{List}
-use Rattle.scope.specs.Once.{Promise, Once, Lent, Seen, shuffle_due, SeenVerdict, check_due}
+use mathlib.Core.Path.{◌≡◌, sym, ◌∙◌}
+use Rattle.scope.specs.Once.{Promise, Once}
 
 pub determined : {Lent Out Seen : Type 0} (seen : Out → Seen) (due : Lent → Seen) → Once seen due
 determined seen due lent a b p q = p ∙ sym q

@@ -1,18 +1,19 @@
 -- Which codes come back: every refusal of a plan, of an operation, of a loop and of a job is one of document 01's.
-use Prim.Native.Nat.{ℕ, zero, suc, ◌+◌, ◌-◌, ◌%◌, ◌≤◌, ◌<◌, min}
+use Rattle.std.specs.Prelude.{if◌then◌else◌}
+use Prim.Native.Nat.{ℕ, zero, suc, ◌+◌, ◌-◌, ◌≤◌, min}
 use native.Mathlib.Omega.{arith}
-use mathlib.Core.Path.{◌≡◌, refl, sym, ap, ◌∙◌}
+use mathlib.Core.Path.{◌≡◌, refl}
 use mathlib.Core.Bool.{Bool, true, false, not, ◌&&◌, ◌||◌}
 use mathlib.Core.Option.{Option, none, some}
-use mathlib.Core.List.{List, [], ◌∷◌, ◌++◌}
+use mathlib.Core.List.{List, [], ◌∷◌}
 use lib.ListN.{length, get_or, replicate}
 use lib.Dec.{eqb, leb, ltb}
 use Rattle.scope.specs.declared.Op.{Op}
 use Rattle.scope.specs.declared.Op.TheVariants.{Swap, Dup, Pop, Store, Load}
-use Rattle.scope.specs.Words.{if◌then◌else◌, if_zero, same_list, ◌∈◌, count, ◌at◌, ◌from◌, lowest, first_of, latest_of}
+use Rattle.scope.specs.Words.{same_list, ◌∈◌, count, ◌at◌, ◌from◌, lowest, first_of, latest_of}
 use Rattle.scope.specs.Rules.{Job, State, Plan, write, refuse, pass, ◌▹◌, Asked, yes, no, outside, on_answer, pop_if, swap_with, load_slot, load, store, exchange, exchange_at, dup_at, dup_of, load_for, giver, floor, asked, differs, wants_top, extra, extra_at, can_be_set_right, needs_copy, out_of_reach, rule_a, rule_b, rule_c, rule_d, rule_e, rule_f, rule_x, may_push, store_unless_push, rule_u, rule_v, rule_w, shrink_plan, grow_plan}
-use Rattle.scope.specs.Shuffle.{no_record, refusal, after, Ended, perform, carry_out, recount, loop, shrinks, grows, shrink, grow, finish, Start, job_code, code_of, started, run_from, shuffle}
-use Rattle.scope.specs.Replay.{Verdict, decoded, op_fault, fault, stack_then, spilled_then, gas_then, replay_from, replay, odd_words}
+use Rattle.scope.specs.Shuffle.{no_record, refusal, after, perform, carry_out, recount, loop, shrinks, grows, shrink, grow, finish, Start, job_code, code_of, run_from, shuffle}
+use Rattle.scope.specs.Replay.{decoded, op_fault, fault, stack_then, spilled_then, gas_then, replay_from, replay, odd_words}
 
 -- ---- the shuffle: at most 12
 

@@ -1,10 +1,9 @@
 -- The Ethereum Yellow Paper's stack machine, as far as Swap, Dup and Pop need it (document 01 names it as the judge of what an
 -- operation does): appendix H's items removed (δ) and added (α), what the new items are, and the exceptional halt.
 -- A stack is a list, top first: item x of s is the paper's μs[x]. Nothing here is shared with Machine or Replay.
-use Rattle.std.specs.Prelude.{ℕ, zero, suc, ◌+◌, ◌-◌, ◌≤◌, ◌<◌, ◌≡◌, List, [], ◌∷◌, length, get_or, eqb}
+use Rattle.std.specs.Prelude.{ℕ, ◌+◌, ◌-◌, ◌≤◌, ◌<◌, ◌≡◌, List, [], ◌∷◌, length, get_or, eqb, if◌then◌else◌}
 use Rattle.scope.specs.declared.Op.{Op}
 use Rattle.scope.specs.declared.Op.TheVariants.{Swap, Dup, Pop}
-use Rattle.scope.specs.Words.{if◌then◌else◌}
 
 -- POP, DUP1 to DUP16, SWAP1 to SWAP16
 pub data Instr : Type 0 where

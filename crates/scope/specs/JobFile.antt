@@ -1,12 +1,11 @@
 -- Document 01, "The driver": a job's bytes, and the lines that answer it.
-use Rattle.std.specs.Prelude.{ℕ, zero, suc, ◌+◌, ◌-◌, ◌*◌, ◌/◌, ◌%◌, ◌≤◌, ◌<◌, ◌≡◌, Bool, true, false, ◌&&◌, List, [], ◌∷◌, ◌++◌, length, get_or, eqb, leb, ltb}
+use Rattle.std.specs.Prelude.{ℕ, zero, suc, ◌+◌, ◌*◌, ◌/◌, ◌%◌, ◌≤◌, Bool, ◌&&◌, List, [], ◌∷◌, ◌++◌, length, get_or, eqb, leb, if◌then◌else◌}
 use Rattle.std.proofs.Math.Option.{Option, none, some}
 use Rattle.scope.specs.declared.Op.{Op}
 use Rattle.scope.specs.Codes.{JOB, MAX-WORD}
-use Rattle.scope.specs.Words.{if◌then◌else◌}
 use Rattle.scope.specs.Machine.{gas_sum}
 use Rattle.scope.specs.Rules.{Job}
-use Rattle.scope.specs.Shuffle.{Start, start_of, Result, result, started, shuffle}
+use Rattle.scope.specs.Shuffle.{start_of, Result, result, started, shuffle}
 use Rattle.scope.specs.Stack.{decimal, printed, stack_op}
 
 -- What a job file says: the three lists, the first slot, the two limits.

@@ -1,6 +1,6 @@
 -- Document 01, "What a reader may rely on": a promise determines the outcome. A promise has the form "what is seen of the outcome is
 -- what is due for what was lent"; every field of the answer and every lent word is seen, of a stack its height and its values.
-use Rattle.std.specs.Prelude.{ℕ, zero, suc, ◌+◌, ◌-◌, ◌*◌, ◌≡◌, List, [], ◌∷◌, ◌++◌, length, take}
+use Rattle.std.specs.Prelude.{ℕ, ◌-◌, ◌*◌, ◌≡◌, List, length, take}
 use Rattle.scope.specs.Words.{Stack, stack_of}
 use Rattle.scope.specs.Machine.{record_words, capacity, over, over_from, words_of}
 use Rattle.scope.specs.Rules.{Job}

@@ -1,7 +1,7 @@
 -- Document 01, "What comes back" and "Port order" 2: what each call of 002's `EvmStack`, `StackOps` and `ScheduleConfig` answers.
 -- A call looks at the stack's values; a height that is stated too large does not matter to it. After a success the stated height is
 -- the number of values; a refusal gives the stack back as it was.
-use Rattle.std.specs.Prelude.{ℕ, zero, suc, ◌+◌, ◌-◌, ◌/◌, ◌%◌, Bool, true, false, not, ◌&&◌, ◌||◌, List, [], ◌∷◌, ◌++◌, length, get_or, set, drop, eqb, leb, ltb}
+use Rattle.std.specs.Prelude.{ℕ, zero, suc, ◌+◌, ◌-◌, ◌/◌, ◌%◌, Bool, true, ◌&&◌, ◌||◌, List, [], ◌∷◌, ◌++◌, length, get_or, set, drop, eqb, leb, ltb, if◌then◌else◌}
 use Rattle.std.proofs.Math.Option.{Option, none, some}
 use Rattle.scope.specs.declared.Op.{Op}
 use Rattle.scope.specs.declared.Op.TheVariants.{Swap, Dup, Pop, Store, Load}
@@ -14,7 +14,7 @@ use Rattle.scope.specs.declared.Depth.TheVariants.{Is as DepthIs, Nothing as NoD
 use Rattle.scope.specs.declared.Found.{Found}
 use Rattle.scope.specs.declared.Found.TheVariants.{At, Nothing as NotFound}
 use Rattle.scope.specs.Codes.{DONE, LIMIT, START, FULL, EMPTY, OUTSIDE, MAX-HEIGHT}
-use Rattle.scope.specs.Words.{if◌then◌else◌, count, first_of, Stack, stack_of}
+use Rattle.scope.specs.Words.{Stack, stack_of}
 
 -- ---- What an answer says, for each enum that is one
 

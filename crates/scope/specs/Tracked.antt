@@ -1,13 +1,13 @@
 -- Document 01, "What comes back" and "Port order" 3: what each call of 002's `TrackedStack` answers. Its sink and its `Vec` are two lent
 -- buffers of words with counts. Of several refusals at once the order is 23, 20, 21, 22, then 6, 7, 10, 11; a refusal changes nothing.
-use Rattle.std.specs.Prelude.{ℕ, ◌+◌, ◌-◌, ◌*◌, Bool, true, false, ◌||◌, List, [], ◌∷◌, length, get_or, set, drop, take, eqb, leb, ltb}
+use Rattle.std.specs.Prelude.{ℕ, ◌+◌, ◌-◌, ◌*◌, Bool, ◌||◌, List, [], ◌∷◌, length, get_or, set, drop, take, eqb, leb, ltb, if◌then◌else◌}
 use Rattle.std.proofs.Math.Option.{Option, none, some}
 use Rattle.scope.specs.declared.Op.{Op}
 use Rattle.scope.specs.declared.Op.TheVariants.{Swap, Dup, Pop, Store, Load}
 use Rattle.scope.specs.declared.Step.{Step}
 use Rattle.scope.specs.declared.Step.TheVariants.{Wrote, Refused}
 use Rattle.scope.specs.Codes.{DONE, START, FILLED, SLOTS, MISSING, FULL, SPILL, OPS, EMPTY, OUTSIDE, UNFILLED, SWAP-OF-ZERO, MAX-HEIGHT, MAX-WORD}
-use Rattle.scope.specs.Words.{if◌then◌else◌, if_zero, latest_of, Stack, stack_of}
+use Rattle.scope.specs.Words.{if_zero, latest_of, Stack, stack_of}
 use Rattle.scope.specs.Machine.{record_words, capacity, over, kind, argument, swapped}
 
 -- ---- A step's answer: document 01's code, 0 where an operation was written, and the operation

@@ -1,4 +1,5 @@
 -- One tracked call on what is held is one operation on the state: the same code, and the state after it is held.
+use Rattle.std.specs.Prelude.{if◌then◌else◌}
 use Prim.Native.Nat.{ℕ, zero, suc, ◌+◌, ◌-◌, ◌*◌, ◌/◌, ◌≤◌, ◌<◌, min}
 use native.Mathlib.Omega.{arith}
 use native.Mathlib.Numerals.{add-one}
@@ -11,7 +12,7 @@ use lib.Dec.{eqb, leb, ltb}
 use borrow.Author.Tests.{leb-true, leb-false, le-leb, lt-leb, le-ltb, lt-ltb, eq-eqb, ne_eqb}
 use Rattle.scope.specs.declared.Op.{Op}
 use Rattle.scope.specs.declared.Op.TheVariants.{Swap, Dup, Pop, Store, Load}
-use Rattle.scope.specs.Words.{if◌then◌else◌, if_zero, Stack, stack_of}
+use Rattle.scope.specs.Words.{if_zero, Stack, stack_of}
 use Rattle.scope.specs.Machine.{capacity, swapped, kind, argument, words_of, over, over_from}
 use Rattle.scope.specs.Rules.{Job, State}
 use Rattle.scope.specs.Shuffle.{no_record, refusal, after, Ended, ended, perform}

@@ -1,4 +1,5 @@
 -- Performing a choice: each tracked call is one operation of the plan, and two operations are one after the other.
+use Rattle.std.specs.Prelude.{if◌then◌else◌}
 use Prim.Native.Nat.{ℕ, zero, suc, ◌+◌, ◌-◌, ◌/◌, ◌<◌, ◌≤◌}
 use native.Mathlib.Omega.{arith}
 use mathlib.Core.Path.{◌≡◌, refl, sym, ap, ◌∙◌}
@@ -14,7 +15,7 @@ use Rattle.scope.specs.declared.Step.{Step}
 use Rattle.scope.specs.declared.Step.TheVariants.{Wrote, Refused}
 use Rattle.scope.specs.declared.Word.{Word}
 use Rattle.scope.specs.declared.Word.TheVariants.{Is, Nothing}
-use Rattle.scope.specs.Words.{if◌then◌else◌, if_zero}
+use Rattle.scope.specs.Words.{if_zero}
 use Rattle.scope.specs.Stack.{fifo, word_of}
 use Rattle.scope.specs.Rules.{Job, State}
 use Rattle.scope.specs.Shuffle.{Ended, ended, after as after_op, perform, no_record}

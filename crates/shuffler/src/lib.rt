@@ -1,5 +1,7 @@
 // 000's GreedyShuffler: performing what the rules choose, the tick, shrink, grow, the finish, and the whole run.
 // The stack's array, the operation words and the spill words are lent down to every function; the numbers travel by value.
+#![tactic(auto)]
+
 ghost use Rattle.std.specs.Prelude.{◌≡◌};
 ghost use Rattle.scope.specs.Shuffle.{job_code};
 ghost use Rattle.scope.specs.Once.{shuffle_due};
@@ -17,7 +19,7 @@ mod tick;
 mod whole;
 
 // Where a run stands, beside the lent words: tracked's numbers, and how many bottom positions are completed.
-#[derive(Drop)]
+#[derive(Clone, Copy)]
 pub(crate) struct Progress {
     pub numbers: Numbers,
     pub complete: usize,
@@ -41,14 +43,14 @@ pub(crate) fn one_by_one(p: Progress) -> Progress
 }
 
 // A code, 0 for done, and where the run stands after it.
-#[derive(Drop)]
+#[derive(Clone, Copy)]
 pub(crate) struct Performed {
     pub code: u32,
     pub progress: Progress,
 }
 
 // How a loop ended: a code, 0 for done; the ticks passed; where the run stands.
-#[derive(Drop)]
+#[derive(Clone, Copy)]
 pub(crate) struct Looped {
     pub code: u32,
     pub ticks: u32,
@@ -56,7 +58,7 @@ pub(crate) struct Looped {
 }
 
 // How a run ended: its code, the ticks of each loop, where it stands.
-#[derive(Drop)]
+#[derive(Clone, Copy)]
 pub(crate) struct Ended {
     pub code: u32,
     pub shrink_ticks: u32,
@@ -66,7 +68,7 @@ pub(crate) struct Ended {
 
 // What a shuffle answers: the code, the ticks of shrink and of grow, the operations that it wrote, the slots filled, the end stack.
 #[repr(C)]
-#[derive(Drop)]
+#[derive(Clone, Copy)]
 pub struct Answer {
     pub code: u32,
     pub shrink_ticks: u32,
@@ -77,7 +79,7 @@ pub struct Answer {
 }
 
 // The answer, and the tracked state after the run.
-#[derive(Drop)]
+#[derive(Clone, Copy)]
 pub struct Finished {
     pub answer: Answer,
     pub state: TrackedState,

@@ -1,4 +1,6 @@
 // 002's EvmStack: 1,024 words, the top at index 1024 - len. A length above 1,024 is read as 1,024, so that every value of the type is a stack.
+#![tactic(auto)]
+
 ghost use Rattle.std.specs.Prelude.{◌≡◌, ◌+◌, ◌≤◌, min, length};
 ghost use Rattle.std.proofs.Math.Seq.{paste};
 ghost use Rattle.scope.specs.Words.{count, first_of};
@@ -8,35 +10,35 @@ ghost use Rattle.stack.specs.Promises.{stack_in, values_in, blank, Fresh, Leaves
 use scope::{Depth, Found, Word};
 
 #[repr(C)]
-#[derive(Drop)]
+#[derive(Clone, Copy)]
 pub struct EvmStack {
     pub stack_raw: [u32; 1024],
     pub stack_len: u16,
 }
 
 // What a leaf that may change the words answers: a code, and the length after it.
-#[derive(Drop)]
+#[derive(Clone, Copy)]
 pub struct After {
     pub code: u32,
     pub len: u16,
 }
 
 // The top that a leaf takes off, and the length after it.
-#[derive(Drop)]
+#[derive(Clone, Copy)]
 pub struct Taken {
     pub value: Word,
     pub len: u16,
 }
 
 // A code, and the stack after the call.
-#[derive(Drop)]
+#[derive(Clone, Copy)]
 pub struct Answer {
     pub code: u32,
     pub stack: EvmStack,
 }
 
 // The value that was popped, and the stack after it.
-#[derive(Drop)]
+#[derive(Clone, Copy)]
 pub struct Popped {
     pub value: Word,
     pub stack: EvmStack,

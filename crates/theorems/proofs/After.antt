@@ -1,4 +1,5 @@
 -- The checker looks at what a shuffle left: the slots that were filled before it are still there, and the room for operations is no matter to it.
+use Rattle.std.specs.Prelude.{if◌then◌else◌}
 use Prim.Native.Nat.{ℕ, zero, suc, ◌+◌, ◌-◌, ◌*◌, ◌/◌, ◌≤◌, ◌<◌}
 use native.Mathlib.Omega.{arith}
 use mathlib.Core.Path.{◌≡◌, refl, sym, ap, ◌∙◌, subst}
@@ -10,7 +11,7 @@ use lib.Seq.{take_at, drop-append_seam, take_all, length-take-le}
 use lib.Dec.{eqb, leb, ltb}
 use Rattle.scope.specs.declared.Op.{Op}
 use Rattle.scope.specs.declared.Op.TheVariants.{Swap, Dup, Pop, Store, Load}
-use Rattle.scope.specs.Words.{if◌then◌else◌, if_zero, same_list}
+use Rattle.scope.specs.Words.{if_zero, same_list}
 use Rattle.scope.specs.Machine.{record_words, stack_after, spilled_after, more_gas, words_of, over, over_from, gas_sum}
 use Rattle.scope.specs.Rules.{Job}
 use Rattle.scope.specs.Shuffle.{Start, code_of, shuffle}

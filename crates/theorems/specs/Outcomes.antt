@@ -1,9 +1,9 @@
 -- What comes out of a shuffle and out of the checker, as the statements speak of it, and the verdict that is due after a shuffle.
-use Rattle.std.specs.Prelude.{ℕ, ◌*◌, ◌≡◌, List, [], ◌∷◌, length, take, drop, replicate}
+use Rattle.std.specs.Prelude.{ℕ, ◌*◌, ◌≡◌, List, [], ◌∷◌, length, take, drop, replicate, if◌then◌else◌}
 use Rattle.scope.specs.declared.Op.{Op}
 use Rattle.scope.specs.declared.Op.TheVariants.{Store, Load}
 use Rattle.scope.specs.Codes.{DONE, UNLIKE}
-use Rattle.scope.specs.Words.{if◌then◌else◌, if_zero, same_list, stack_of}
+use Rattle.scope.specs.Words.{if_zero, same_list, stack_of}
 use Rattle.scope.specs.Machine.{record_words, words_of, over, over_from, gas_sum}
 use Rattle.scope.specs.Evm.{Instr, Does, Codes}
 use Rattle.scope.specs.Shuffle.{code_of, shuffle}

@@ -1,4 +1,6 @@
 // The combined statement over the code: a shuffle, and then the checker on what it wrote.
+#![tactic(auto)]
+
 ghost use Rattle.std.specs.Prelude.{◌*◌, ◌≡◌, take};
 ghost use Rattle.scope.specs.Once.{shuffle_due};
 ghost use Rattle.shuffler.specs.Promises.{seen_in, lent_plain};
@@ -10,7 +12,7 @@ use replay::Verdict;
 use shuffler::Answer;
 
 // What a shuffle answered, and the checker's verdict on it.
-#[derive(Drop)]
+#[derive(Clone, Copy)]
 pub struct Both {
     pub answer: Answer,
     pub verdict: Verdict,

@@ -1,4 +1,6 @@
 // Reads one job from standard input and writes its trace; with an argument, the trace of the list in that file. The work is `tracing`'s.
+#![tactic(auto)]
+
 use libc::{STDIN_FILENO, STDOUT_FILENO};
 use tracing::{room, trace_job, trace_list};
 

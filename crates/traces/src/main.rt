@@ -1,4 +1,6 @@
 // Traces stored jobs, and stored lists on them, one after the other, and writes each one's name and its trace.
+#![tactic(auto)]
+
 use libc::STDOUT_FILENO;
 use tracing::{room, trace_job, trace_list, trace_words};
 

@@ -1,5 +1,7 @@
 // A trace, on slices: a job's bytes in, and with them nothing or a list of operations; lines for people to read out. The operations are the
 // shuffle's or the list's, the verdict is the checker's, the stacks are the tracked stack's, the counts are counting's.
+#![tactic(auto)]
+
 ghost use Rattle.std.specs.Prelude.{◌≡◌, length};
 ghost use Rattle.lines.specs.Promises.{Wrote};
 

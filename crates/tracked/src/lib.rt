@@ -1,5 +1,7 @@
 // 002's TrackedStack: what each operation does to the stack's words, to the operation words and to the spill words. The words are lent to each
 // call; the numbers beside them travel by value. A refusal changes nothing.
+#![tactic(auto)]
+
 ghost use Rattle.std.specs.Prelude.{◌≡◌, ◌/◌, ◌<◌, length};
 ghost use Rattle.std.proofs.Math.Option.{some};
 ghost use Rattle.scope.specs.Words.{latest_of};
@@ -12,7 +14,7 @@ use operations::{argument_of, kind_of};
 use scope::{Found, Op, Step, Word};
 
 // The numbers beside the lent words: the stack's length, the first slot's number, the filled slots, the operations written.
-#[derive(Drop)]
+#[derive(Clone, Copy)]
 pub struct Numbers {
     pub len: u16,
     pub first: u32,
@@ -21,7 +23,7 @@ pub struct Numbers {
 }
 
 // What a call answers: the step, and the numbers after it.
-#[derive(Drop)]
+#[derive(Clone, Copy)]
 pub struct Moved {
     pub step: Step,
     pub numbers: Numbers,

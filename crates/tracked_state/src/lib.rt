@@ -1,4 +1,6 @@
 // 002's TrackedStack by value: the stack and the numbers in one struct, the operation and the spill words lent to each call.
+#![tactic(auto)]
+
 ghost use Rattle.std.specs.Prelude.{◌≡◌, ◌≤◌, length, take, ltb};
 ghost use Rattle.scope.specs.Words.{stack_of};
 ghost use Rattle.scope.specs.Machine.{over};
@@ -12,7 +14,7 @@ use stack::EvmStack;
 use tracked::{Moved, Numbers};
 
 #[repr(C)]
-#[derive(Drop)]
+#[derive(Clone, Copy)]
 pub struct TrackedState {
     pub stack: EvmStack,
     pub first: u32,
@@ -21,21 +23,21 @@ pub struct TrackedState {
 }
 
 // A step, and the state after it.
-#[derive(Drop)]
+#[derive(Clone, Copy)]
 pub struct Performed {
     pub step: Step,
     pub state: TrackedState,
 }
 
 // A code, and the state that was made; one that holds nothing where the code is not 0.
-#[derive(Drop)]
+#[derive(Clone, Copy)]
 pub struct Made {
     pub code: u32,
     pub state: TrackedState,
 }
 
 // A code, and the number of the slot after the last filled one.
-#[derive(Drop)]
+#[derive(Clone, Copy)]
 pub struct NextId {
     pub code: u32,
     pub id: u32,

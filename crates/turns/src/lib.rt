@@ -1,4 +1,6 @@
 // One turn of a trace: an operation's words carried out by the tracked stack's calls, and the completed positions counted after it.
+#![tactic(auto)]
+
 ghost use Rattle.std.specs.Prelude.{◌≡◌};
 ghost use Rattle.answer.specs.Promises.{said};
 ghost use Rattle.tracked.specs.Promises.{tracked_in};

@@ -1,4 +1,6 @@
 // Puts to the checker a list for each of its codes, and lists on both sides of each limit. It writes what it lends, the verdict, and the slots after it.
+#![tactic(auto)]
+
 use libc::STDOUT_FILENO;
 
 fn wide(x: u32) -> u64 {

@@ -1,6 +1,5 @@
 -- One turn of a trace: what it leaves, and the line that it lays.
-use Rattle.std.specs.Prelude.{ℕ, ◌≡◌, List, [], ◌∷◌, ◌++◌, length, ltb}
-use Rattle.scope.specs.Words.{if◌then◌else◌}
+use Rattle.std.specs.Prelude.{ℕ, ◌≡◌, List, [], ◌∷◌, ◌++◌, length, ltb, if◌then◌else◌}
 use Rattle.scope.specs.Stack.{fifo}
 use Rattle.scope.specs.Tracked.{stored_in}
 use Rattle.tracked.specs.declared.Numbers.{Numbers}

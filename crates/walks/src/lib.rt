@@ -1,4 +1,6 @@
 // The lines of a list's operations, one after the other, each with the stack that it leaves.
+#![tactic(auto)]
+
 ghost use Rattle.std.specs.Prelude.{◌++◌};
 ghost use Rattle.lines.specs.Promises.{Lays, Wrote, turn_text, state_text};
 ghost use Rattle.walks.specs.Promises.{filled_text, OneTurn};
@@ -10,7 +12,7 @@ use tracked::{Numbers, underlying_spilled};
 use turns::{completed, turn};
 
 // Where a trace stands, beside the lent words: the tracked stack's numbers, the completed positions, the place after the last line.
-#[derive(Drop)]
+#[derive(Clone, Copy)]
 pub(crate) struct Walk {
     pub(crate) numbers: Numbers,
     pub(crate) done: usize,
