@@ -1,0 +1,12 @@
+-- What is counted so far and the count of the rest make the whole count; a turn counts one block.
+use Prim.Native.Nat.{◌+◌, ◌-◌, ◌≤◌}
+use mathlib.Core.Path.{◌≡◌}
+use lib.ListN.{length, drop}
+use Rattle.scope.specs.Words.{count}
+use Rattle.lists.proofs.count_of.Given as goal
+
+abbrev pub invariant-loop-i : goal.invariant-loop-i
+invariant-loop-i l = (l.i ≤ length l.s) × (l.n ≤ l.i) × (l.n + count l.v (drop l.i l.s) ≡ count l.v l.s)
+
+abbrev pub decreases-loop-i : goal.decreases-loop-i
+decreases-loop-i l = length l.s - l.i
