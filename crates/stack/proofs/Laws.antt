@@ -7,11 +7,11 @@ use mathlib.Core.Bool.{Bool, true, false}
 use mathlib.Core.Option.{some, none}
 use mathlib.Core.List.{List, [], ◌∷◌, ◌++◌, append-nil}
 use lib.ListN.{length, get_or, set, drop, take, length-drop, length-set, length-append, take-append-drop, drop_of_length-le}
-use lib.Seq.{take_all, drop-cons, drop-drop, drop-set-add, drop-set-lt, take-set-le, get_or-drop, get_or-set_same, paste, paste-zero, paste-suc, drop_at, length-take-le, take-length, take_at}
+use lib.Seq.{take_all, drop-cons, drop-drop, drop-set-add, drop-set-lt, take-set-le, get_or-drop, get_or-set_same, paste, paste-suc, drop_at, length-take-le, take-length, take_at}
 use lib.Dec.{eqb, leb}
 use borrow.Author.Tests.{le-leb, lt-leb, lt-ltb, le-ltb, eq-eqb, ne_eqb}
 use Rattle.scope.specs.Words.{count, holds, first_of, stack_of}
-use Rattle.scope.specs.Stack.{fifo, kept, refused, leaves, push_on, duplicate_on, exchange_on, exchanged, pop_on, made_from, is_empty, at_depth, found_of}
+use Rattle.scope.specs.Stack.{fifo, kept, refused, leaves, push_on, duplicate_on, exchange_on, exchanged, pop_on, made_from, at_depth, found_of}
 use Rattle.scope.specs.declared.Word.TheVariants.{Is, Nothing}
 use Rattle.scope.specs.declared.Found.{Found}
 use Rattle.scope.specs.declared.Found.TheVariants.{At, Nothing as NotFound}
@@ -199,14 +199,8 @@ pub fresh : kept blank 0 ≡ stack_of []
 fresh = rw (fifo-none blank)
 
 module _ (d : List ℕ) (at : ℕ) (s : List ℕ) (full : length d ≡ 1024) (fits : at + length s ≤ 1024) where
-  pub fill_start : d ≡ paste d at s 0
-  fill_start = paste-zero d at s
-
   pub fill_step : (w : List ℕ) (i : ℕ) → i < length s → w ≡ paste d at s i → set w (at + i) (get_or s i 0) ≡ paste d at s (i + 1)
   fill_step w i h e = let k : at + i < length d = omega arith in rw (e, add-one i) (paste-suc d at s i 0 k h)
-
-  pub fill_end : (w : List ℕ) (i : ℕ) → i ≤ length s → length s ≤ i → w ≡ paste d at s i → w ≡ paste d at s (length s)
-  fill_end w i h k e = let n : i ≡ length s = omega arith in rw n at e
 
 -- more than fit: the words stay
 pub made-long : (s raw : List ℕ) → length raw ≡ 1024 → length raw < length s → Leaves (made_from s) 2 0 raw raw
@@ -236,9 +230,6 @@ made-new s d w code len q l = rw q at l
 
 pub len_is : (raw : List ℕ) (len h : ℕ) → h ≡ min (length raw) len → h ≡ length (fifo raw len)
 len_is raw len h is = is ∙ sym (length-fifo raw len)
-
-pub empty-is : (n : ℕ) (l : List ℕ) → n ≡ length l → eqb n 0 ≡ is_empty l
-empty-is n l e = rw e
 
 pub count-le : (v : ℕ) (l : List ℕ) → count v l ≤ length l
 count-le v [] = omega (arith, count-nil v)
