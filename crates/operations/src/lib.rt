@@ -101,6 +101,7 @@ impl ScheduleConfig {
     }
 
     // The settings for a swap limit and no exchange: a dup reaches one less deep than a swap. A limit of 0 is refused.
+    #[tactic(auto, unfolding(scope::specs::Stack::no_exchange))]
     pub fn max_swap_no_exchange(max_swap_depth: u8) -> Configured
         ensures { configured_of result ≡ no_exchange max_swap_depth }
     {
@@ -128,6 +129,7 @@ impl ScheduleConfig {
 }
 
 // May a schedule with these settings have the operation? A swap of depth 0 is let through, as in 002.
+#[tactic(auto, unfolding(scope::specs::Stack::is_valid))]
 pub fn is_valid(op: StackOps, config: ScheduleConfig) -> bool
     ensures { result ≡ is_valid op (config_of config) }
 {
