@@ -5,21 +5,18 @@ use mathlib.Core.Path.{◌≡◌, refl, ap, sym, subst, ◌∙◌}
 use mathlib.Core.Bool.{Bool, true, false}
 use mathlib.Core.Option.{some, none, none-ne-some, some-ne-none, some-injective}
 use mathlib.Core.List.{List, ◌∷◌}
-use lib.ListN.{length, get_or, set, drop, take}
-use lib.Seq.{take_all, length-take-le}
+use lib.ListN.{length, get_or, set, drop}
 use lib.Dec.{eqb, leb, ltb}
 use borrow.Author.Tests.{le-leb, lt-leb, lt-ltb, le-ltb, eq-eqb, ne_eqb}
 use Rattle.scope.specs.Words.{latest_of, Stack, stack_of}
 use Rattle.scope.specs.Machine.{kind, argument, swapped}
-use Rattle.scope.specs.Stack.{fifo, kept, leaves, pop_on, push_on, duplicate_on, exchange_on, word_of, found_of}
+use Rattle.scope.specs.Stack.{fifo, kept, leaves, pop_on, push_on, duplicate_on, exchange_on, word_of}
 use Rattle.scope.specs.Tracked.{Stepped, Spilled, refused_step, refused_spill, writes, emitted, stored_in, numbered, spilled_slot, pop_step, swap_step, dup_step, spill_step, load_step, unspill_step}
 use Rattle.scope.specs.declared.Op.{Op}
 use Rattle.scope.specs.declared.Op.TheVariants.{Swap, Dup, Pop, Store, Load}
 use Rattle.scope.specs.declared.Step.TheVariants.{Wrote, Refused}
 use Rattle.scope.specs.declared.Word.{Word}
 use Rattle.scope.specs.declared.Word.TheVariants.{Is, Nothing}
-use Rattle.scope.specs.declared.Found.{Found}
-use Rattle.scope.specs.declared.Found.TheVariants.{At, Nothing as NotFound}
 use Rattle.stack.specs.Promises.{laid, Leaves, Takes}
 use Rattle.stack.specs.declared.After.{After}
 use Rattle.stack.specs.declared.Taken.{Taken}
@@ -34,30 +31,6 @@ pub written_is : (ops : List ℕ) (t : Numbers) (o : Op) (len filled k a : ℕ) 
     → Writes t o len filled ops (set (set ops (2 * t.written) k) (2 * t.written + 1) a) (record { step = Wrote o; numbers = record { len = len; first = t.first; filled = filled; written = t.written + 1 } })
 unfolding emitted
 written_is ops t o len filled k a e f = record { words = rw (e, f); answer = refl }
-
-module _ (first i : ℕ) where
-  pub alloc-none : 4294967295 - first < i → none ≡ numbered first (some i)
-  alloc-none h = rw (lt-ltb 4294967295 (first + i) (omega arith))
-
-  pub alloc-some : first < 4294967296 → i ≤ 4294967295 - first → some (first + i) ≡ numbered first (some i)
-  alloc-some b h = rw (le-ltb 4294967295 (first + i) (omega arith))
-
-pub ruleset allocating = (alloc-none, alloc-some)
-
-pub stored-count : (f : ℕ) (l : List ℕ) → f ≤ length l → f ≡ length (take f l)
-stored-count f l h = sym (length-take-le f l h)
-
-pub stored-whole : (f : ℕ) (l : List ℕ) → length l < f → l ≡ take f l
-stored-whole f l h = let k : length l ≤ f = omega arith in sym (take_all f l k)
-
-module _ (first v : ℕ) (l s : List ℕ) (f : Found) (part : s ≡ l) (is : found_of f ≡ latest_of v s) where
-  pub slot-some : (i : ℕ) (w : Word) → f ≡ At i → word_of w ≡ numbered first (some i) → word_of w ≡ numbered first (latest_of v l)
-  slot-some i w e n = let q : latest_of v l ≡ some i = ap (latest_of v) (sym part) ∙ sym is ∙ rw e in rw q n
-
-  pub slot-none : f ≡ NotFound → none ≡ numbered first (latest_of v l)
-  slot-none e = let q : latest_of v l ≡ none = ap (latest_of v) (sym part) ∙ sym is ∙ rw e in rw q
-
-pub ruleset looking = (slot-some, slot-none)
 
 -- ---- what an answer that is a value or nothing says
 
