@@ -1,48 +1,26 @@
--- Making a state, and a leaf's answer joined to the state that lent it its array.
+-- Making a state, what looks at one only, and the same state over a second spill buffer.
 use Prim.Native.Nat.{ℕ, zero, suc, ◌+◌, ◌-◌, ◌≤◌, ◌<◌, min}
 use native.Mathlib.Omega.{arith}
-use native.Mathlib.Numerals.{add-one}
 use mathlib.Core.Path.{◌≡◌, refl, ap, sym, subst, ◌∙◌}
 use mathlib.Core.Bool.{Bool, true, false, ◌||◌}
 use mathlib.Core.Option.{some}
 use mathlib.Core.List.{List, []}
-use lib.ListN.{length, get_or, set, take}
-use lib.Seq.{length-take-le, paste, paste-zero, paste-suc}
+use lib.ListN.{length, take}
 use lib.Dec.{ltb}
 use borrow.Author.Tests.{lt-ltb, le-ltb, ltb-true, ltb-false}
 use Rattle.scope.specs.Words.{if_zero, latest_of, Stack, stack_of}
 use Rattle.scope.specs.Machine.{over}
 use Rattle.scope.specs.Stack.{made_from, word_of}
-use Rattle.scope.specs.Tracked.{Tracked, Stepped, Spilled, Made, holding, making_code, made_with, made, cloned, next_id, stored_in, numbered, spilled_slot}
-use Rattle.scope.specs.declared.Step.{Step}
+use Rattle.scope.specs.Tracked.{Tracked, Made, holding, making_code, made_with, made, cloned, next_id, stored_in, numbered, spilled_slot}
 use Rattle.scope.specs.declared.Word.{Word}
 use Rattle.scope.specs.declared.Word.TheVariants.{Is, Nothing}
 use Rattle.stack.specs.declared.EvmStack.{EvmStack}
 use Rattle.stack.specs.Promises.{stack_in, blank, laid, Leaves}
 use Rattle.tracked.specs.declared.Numbers.{Numbers}
-use Rattle.tracked.specs.declared.Moved.{Moved}
 use Rattle.tracked.proofs.Laws.{nameless, named, name}
-use Rattle.tracked.specs.Promises.{tracked_in, Steps, Spills}
+use Rattle.tracked.specs.Promises.{tracked_in}
 use Rattle.tracked_state.specs.declared.TrackedState.{TrackedState}
-use Rattle.tracked_state.specs.Promises.{numbers_of, array_of, tracked_of, StepsTo, SpillsTo, Makes, Clones, Holds, Joins}
-
--- ---- steps
-
-module _ (m : Moved) (step : Step) (from mid after : TrackedState) (words : List ℕ) (j : Joins m mid after step) where
-  pub joined : (to by : Stepped) → Steps by m.step m.numbers (array_of from) (array_of mid) words → by ≡ to → StepsTo to step from after words
-  joined to by s e =
-      record {
-        answer = rw (j.same, j.numbers, j.words) (s.answer ∙ e);
-        array = j.words ∙ rw (← e) s.array;
-      }
-
-  pub joined-spill : (spill : List ℕ) (to by : Spilled) → Spills by m.step m.numbers (array_of from) (array_of mid) words spill → by ≡ to
-      → SpillsTo to step from after words spill
-  joined-spill spill to by s e =
-      record {
-        answer = rw (j.same, j.numbers, j.words) (s.answer ∙ e);
-        array = j.words ∙ rw (← e) s.array;
-      }
+use Rattle.tracked_state.specs.Promises.{numbers_of, array_of, tracked_of, Makes, Clones, Holds}
 
 -- ---- what looks only
 
@@ -72,27 +50,12 @@ module _ (s : EvmStack) (first filled room slots : ℕ) where
   abbrev making : Made
   making = made_with (making_code s.stack_len (ltb room filled) slots first) (stack_in s) first filled
 
-  pub make-high : (z : TrackedState) → Holds z → 1024 < s.stack_len → Makes making 2 z s.stack_raw
-  make-high z n h = rw (lt-ltb 1024 s.stack_len h) (record { answer = ap (λ (x : Tracked). record { code = 2; state = x }) n.nothing; words = n.words })
-
-  pub make-filled : (z : TrackedState) → Holds z → s.stack_len ≤ 1024 → room < filled → Makes making 4 z s.stack_raw
-  make-filled z n h f =
-      rw (le-ltb 1024 s.stack_len h, lt-ltb room filled f)
-      (record { answer = ap (λ (x : Tracked). record { code = 4; state = x }) n.nothing; words = n.words })
-
-  pub make-slots : (z : TrackedState) → Holds z → s.stack_len ≤ 1024 → filled ≤ room → 4294967295 - first < slots → Makes making 5 z s.stack_raw
-  make-slots z n h f b =
-      rw (le-ltb 1024 s.stack_len h, le-ltb room filled f, lt-ltb 4294967295 (first + slots) (omega arith))
-      (record { answer = ap (λ (x : Tracked). record { code = 5; state = x }) n.nothing; words = n.words })
-
   pub make-done : s.stack_len ≤ 1024 → filled ≤ room → slots ≤ 4294967295 - first → first < 4294967296
       → Makes making 0 (record { stack = s; first = first; filled = filled; written = 0 }) s.stack_raw
   unfolding tracked_in
   make-done h f b w =
       rw (le-ltb 1024 s.stack_len h, le-ltb room filled f, le-ltb 4294967295 (first + slots) (omega arith))
       (record { answer = refl; words = refl })
-
-pub ruleset makes = (make-high, make-filled, make-slots, make-done)
 
 pub made-is : (s : EvmStack) (first filled slots code : ℕ) (z : TrackedState) → Makes (making s first filled slots slots) code z s.stack_raw
     → Makes (made (stack_in s) first filled slots) code z s.stack_raw
@@ -123,23 +86,7 @@ module _ (l : List ℕ) (code first filled slots : ℕ) (s : EvmStack) (z : Trac
 
 pub ruleset parts = (parts-long, parts-made)
 
--- ---- copying
-
-module _ (from to₀ : List ℕ) (n : ℕ) (here : n ≤ length from) (there : n ≤ length to₀) where
-  pub copy_start : to₀ ≡ paste to₀ 0 from 0
-  copy_start = paste-zero to₀ 0 from
-
-  pub copy_step : (to : List ℕ) (i : ℕ) → i < n → to ≡ paste to₀ 0 from i → set to i (get_or from i 0) ≡ paste to₀ 0 from (i + 1)
-  copy_step to i h e =
-      let z : 0 + i ≡ i = omega arith in
-      rw (e, add-one i) (subst (λ (k : ℕ). set (paste to₀ 0 from i) k (get_or from i 0) ≡ paste to₀ 0 from (suc i)) z (paste-suc to₀ 0 from i 0 (omega arith) (omega arith)))
-
-  pub copy-end : (to : List ℕ) (i : ℕ) → i ≤ n → n ≤ i → to ≡ paste to₀ 0 from i → to ≡ over (take n from) to₀
-  copy-end to i h k e =
-      let q : 0 + i ≡ n = omega arith in
-      let r : i ≡ n = omega arith in
-      let z : length (take n from) ≡ n = length-take-le n from here in
-      e ∙ rw (q, r, z)
+-- ---- a second spill buffer
 
 -- the least of two is too small where one of the two is
 least-less : (a b f : ℕ) → ltb (min a b) f ≡ (ltb a f || ltb b f)
@@ -161,14 +108,6 @@ made_code : (r : ℕ) (s : Stack) (first filled : ℕ) → (made_with r s first 
 made_code zero s first filled = refl
 made_code (suc r) s first filled = refl
 
-no-fault : (h : ℕ) (many : Bool) (slots first : ℕ) → making_code h many slots first ≡ 0 → many ≡ false
-no-fault h true slots first e = go (ltb 1024 h) refl
-  where
-    go : (b : Bool) → ltb 1024 h ≡ b → true ≡ false
-    go true q = let z : ◌≡◌ {A = ℕ} 2 0 = rw q at e in absurd (omega arith)
-    go false q = let z : ◌≡◌ {A = ℕ} 4 0 = rw q at e in absurd (omega arith)
-no-fault h false slots first e = refl
-
 module _ (s : TrackedState) (spill other : List ℕ) (room code : ℕ) (z : TrackedState) (is : room ≡ min (length spill) (length other))
     (m : Makes (making s.stack s.first s.filled room (length other)) code z (array_of s)) where
   abbrev fault : ℕ
@@ -179,17 +118,6 @@ module _ (s : TrackedState) (spill other : List ℕ) (room code : ℕ) (z : Trac
 
   code_is : code ≡ fault
   code_is = ap (λ (x : Made). x.code) answered ∙ made_code fault (stack_in s.stack) s.first s.filled
-
-  few : code ≡ 0 → ltb room s.filled ≡ false
-  few e =
-      rw (is, least-less (length spill) (length other) s.filled)
-      (no-fault s.stack.stack_len (ltb (length spill) s.filled || ltb (length other) s.filled) (length other) s.first (sym code_is ∙ e))
-
-  pub clone-here : code ≡ 0 → s.filled ≤ length spill
-  clone-here e = omega (arith, ltb-false room s.filled (few e))
-
-  pub clone-there : code ≡ 0 → s.filled ≤ length other
-  clone-there e = omega (arith, ltb-false room s.filled (few e))
 
   clones : (spill' : List ℕ) → spill' ≡ if_zero fault (over (stored_in s.filled spill) other) other → Clones (cloned (tracked_of s) spill other) code z (array_of s) spill'
   unfolding cloned tracked_in
