@@ -71,19 +71,19 @@ find_archive() {
     ARCHIVE=''
     if [ -z "${NJALLAVET_ARCHIVE:-}" ]; then
         if [ -d ../crates/exports ] && command -v rt >/dev/null 2>&1; then
-            (cd .. && rt staticlib exports) >&2 || {
+            ../bindings/archive >&2 || {
                 echo "the port's archive cannot be built" >&2
                 exit 1
             }
         fi
-        [ -f ../target/staticlib/libexports.a ] && NJALLAVET_ARCHIVE=../target/staticlib
+        [ -f ../crates/exports/out/libexports.a ] && NJALLAVET_ARCHIVE=../crates/exports/out
     fi
     if [ -n "${NJALLAVET_ARCHIVE:-}" ]; then
         NJALLAVET_ARCHIVE=$(cd "$NJALLAVET_ARCHIVE" && pwd)
         export NJALLAVET_ARCHIVE
         ARCHIVE=archive
     elif [ -d ../crates/exports ]; then
-        echo "crates/exports is there, but no archive of it (rt staticlib exports makes it)" >&2
+        echo "crates/exports is there, but no archive of it (bindings/archive makes it)" >&2
         exit 1
     fi
 }
