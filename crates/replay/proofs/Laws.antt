@@ -1,19 +1,17 @@
 -- The whole list: what is left to replay from here gives the verdict of the whole; and the tests before it.
 use Rattle.std.specs.Prelude.{if◌then◌else◌}
-use Prim.Native.Nat.{ℕ, zero, suc, ◌+◌, ◌-◌, ◌*◌, ◌/◌, ◌%◌, ◌≤◌, ◌<◌, min}
+use Prim.Native.Nat.{ℕ, zero, suc, ◌+◌, ◌-◌, ◌*◌, ◌%◌, ◌≤◌, ◌<◌, min}
 use native.Mathlib.Omega.{arith}
 use native.Mathlib.Numerals.{add-one}
 use mathlib.Core.Path.{◌≡◌, refl, ap, sym, ◌∙◌}
 use mathlib.Core.Bool.{Bool, true, false}
-use mathlib.Core.List.{List, [], ◌∷◌, ◌++◌}
+use mathlib.Core.List.{List, ◌∷◌}
 use lib.ListN.{length, get_or, drop, take, take-append-drop, drop_of_length-le}
 use lib.Seq.{drop-cons, drop-drop, length-take-le}
-use lib.Dec.{eqb, leb, ltb}
-use borrow.Author.Tests.{ltb-false, le-leb, lt-leb, lt-ltb, le-ltb, eq-eqb, ne_eqb}
+use borrow.Author.Tests.{le-ltb, ne_eqb}
 use Rattle.scope.proofs.JobCodes.{Passes, passes}
 use Rattle.scope.specs.Words.{if_zero, same_list}
 use Rattle.scope.specs.Machine.{over}
-use Rattle.scope.specs.Rules.{Job}
 use Rattle.scope.specs.Shuffle.{job_code}
 use Rattle.scope.specs.Replay.{Verdict, verdict, replay_from, replay}
 use Rattle.scope.specs.Stack.{fifo, Left, made_from}
@@ -24,20 +22,9 @@ use Rattle.reader.specs.Promises.{record_at}
 use Rattle.replay.specs.declared.Limits.{Limits}
 use Rattle.replay.specs.declared.Turn.{Turn}
 use Rattle.replay.specs.declared.Verdict.{Verdict as Answer}
-use Rattle.replay.specs.Promises.{answered, seen, lent_to, replay_due, Fits, Turned, OnSlots}
-
--- ---- what a code of 0 shows
-
-pub job-inside : (S height target filled slots first code : ℕ) → code ≡ job_code S height target filled slots first → code ≡ 0 → filled ≤ slots
-job-inside S height target filled slots first code is z = (passes S height target filled slots first (sym is ∙ z)).stored
-
-pub job-numbers : (S height target filled slots first code : ℕ) → code ≡ job_code S height target filled slots first → code ≡ 0 → first + slots ≤ 4294967295
-job-numbers S height target filled slots first code is z = (passes S height target filled slots first (sym is ∙ z)).numbers
+use Rattle.replay.specs.Promises.{answered, seen, lent_to, replay_due, Fits, OnSlots}
 
 -- ---- the loop
-
-pub same-values : (a b t : List ℕ) (r : Bool) → r ≡ same_list a t → a ≡ b → r ≡ same_list b t
-same-values a b t r e q = rw q at e
 
 if-not-zero : (r : ℕ) (x y : Verdict) → (r ≡ 0 → ⊥) → if_zero r x y ≡ y
 if-not-zero zero x y ne = absurd (ne refl)
@@ -114,11 +101,6 @@ module _ (start spill₀ target words : List ℕ) (p : Limits) (stored : ℕ) wh
       pub turn-unlike : (v : Answer) (b : Bool) → v ≡ answered 41 i gas filled → b ≡ same_list (fifo raw len) target → b ≡ false → seen v spill ≡ replay_due e
       unfolding replay_due
       turn-unlike v b u q t = seen-is e v 41 i gas filled spill u now.inside now.beyond ∙ ap (λ (v : Verdict). seen_verdict v e) (ended false (sym q ∙ t))
-
--- nothing has been replayed
-pub turn-first : (spill target words raw : List ℕ) (len first S D filled : ℕ) → filled ≤ length spill
-    → Replaying (lent_to (fifo raw len) spill filled first target S D words) raw spill len filled 0 0
-turn-first spill target words raw len first S D filled h = record { slots = refl; inside = h; beyond = refl; rest = refl }
 
 -- ---- the entry
 
