@@ -7,21 +7,10 @@ use mathlib.Core.List.{List}
 use lib.ListN.{length}
 use lib.Dec.{ltb}
 use borrow.Author.Tests.{le-leb, lt-leb, le-ltb, lt-ltb}
-use Rattle.scope.specs.declared.Found.{Found}
-use Rattle.scope.specs.declared.Found.TheVariants.{At, Nothing}
 use Rattle.scope.specs.Words.{found, latest_of, ◌∈◌, ◌at◌, ◌from◌}
-use Rattle.scope.specs.Stack.{found_of}
 use Rattle.scope.specs.Rules.{differs, safe_to_bury, may_push, yes, no, outside}
 use Rattle.questions.specs.Promises.{may_push_in}
-use Rattle.questions.proofs.Answers.{found_some, found_none}
 use Rattle.questions.proofs.Above.{above_in}
-
-module _ (v : ℕ) (L : List ℕ) (f : Found) (e : found_of f ≡ latest_of v L) where
-  pub spilled-found : (i : ℕ) → f ≡ At i → true ≡ found (latest_of v L)
-  spilled-found i h = rw (found_some (latest_of v L) f e i h)
-
-  pub spilled-none : f ≡ Nothing → false ≡ found (latest_of v L)
-  spilled-none h = rw (found_none (latest_of v L) f e h)
 
 module _ (C T L : List ℕ) (h : ℕ) (w : Bool) (e : w ≡ differs C T h) where
   pub bury-wrong : w ≡ true → false ≡ safe_to_bury C T L h

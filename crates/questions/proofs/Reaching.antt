@@ -3,15 +3,13 @@ use Prim.Native.Nat.{ℕ, min}
 use native.Mathlib.Omega.{arith}
 use native.Mathlib.Decide.{dec_le}
 use mathlib.Core.Path.{◌≡◌}
-use mathlib.Core.Bool.{Bool, true, false, not, ◌&&◌}
-use mathlib.Core.Option.{Option, none}
+use mathlib.Core.Bool.{Bool, true, false, not}
 use mathlib.Core.List.{List}
 use lib.ListN.{length, take}
 use lib.Seq.{take_all}
 use lib.Dec.{eqb}
 use Rattle.scope.specs.Words.{◌∈◌, ◌at◌}
-use Rattle.scope.specs.Rules.{differs, gives_for, giver, out_of_reach}
-use Rattle.questions.specs.Promises.{source_for}
+use Rattle.scope.specs.Rules.{differs, gives_for, out_of_reach}
 
 module _ (C T : List ℕ) (p q : ℕ) (w : Bool) (ew : w ≡ differs C T q) where
   pub gives : (x y : ℕ) → w ≡ true → x ≡ (C at q) → y ≡ (T at p) → eqb x y ≡ gives_for C T p q
@@ -21,20 +19,6 @@ module _ (C T : List ℕ) (p q : ℕ) (w : Bool) (ew : w ≡ differs C T q) wher
   pub gives-not : w ≡ false → false ≡ gives_for C T p q
   unfolding gives_for
   gives-not h = rw (← ew, h)
-
-module _ (C T : List ℕ) (f p : ℕ) where
-  pub source-right : (w : Bool) → w ≡ differs C T p → w ≡ false → none ≡ source_for C T f p
-  source-right w e h = rw (← e, h)
-
-  pub source-given : (w : Bool) (x : Option ℕ) → w ≡ differs C T p → w ≡ true → x ≡ giver C T f p → x ≡ source_for C T f p
-  source-given w x e h g = rw (← e, h) g
-
-module _ (C T : List ℕ) (s k : ℕ) (w : Bool) (ew : w ≡ differs C T k) where
-  pub unavailable : (a : Bool) → w ≡ true → a ≡ out_of_reach C T s k → a ≡ (differs C T k && out_of_reach C T s k)
-  unavailable a h ea = rw (← ew, h) ea
-
-  pub available : w ≡ false → false ≡ (differs C T k && out_of_reach C T s k)
-  available h = rw (← ew, h)
 
 -- the top k values, where there may be fewer
 take-least : (k : ℕ) (l : List ℕ) → take (min k (length l)) l ≡ take k l
