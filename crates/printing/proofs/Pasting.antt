@@ -1,14 +1,13 @@
 -- Bytes stored one by one from a place on, and what that makes of the buffer.
-use Prim.Native.Nat.{ℕ, suc, ◌+◌, ◌≤◌, ◌<◌}
+use Prim.Native.Nat.{ℕ, suc, ◌+◌, ◌≤◌}
 use native.Mathlib.Omega.{arith}
 use native.Mathlib.Nat.{add-zero, add-suc, suc-add}
-use native.Mathlib.Numerals.{add-one}
 use mathlib.Core.Path.{◌≡◌, sym, ap, ◌∙◌}
 use mathlib.Core.Bool.{Bool, true, false}
 use mathlib.Core.Option.{some, some-injective, none-ne-some}
 use mathlib.Core.List.{List, [], ◌∷◌, ◌++◌, append_assoc}
-use lib.ListN.{length, get_or, set, drop, length-append, drop_of_length-le}
-use lib.Seq.{sets, sets-eq, length-sets, set_comm, drop-cons, drop-drop}
+use lib.ListN.{length, set, length-append}
+use lib.Seq.{sets, sets-eq, length-sets, set_comm, drop-drop}
 use lib.Dec.{leb}
 use borrow.Author.Tests.{le-leb, leb-true}
 use Rattle.scope.specs.Machine.{over_from}
@@ -26,14 +25,6 @@ pub last-first : (l : List ℕ) (i : ℕ) (a : List ℕ) (d : ℕ) → sets l i 
 last-first l i [] d = rw add-zero
 last-first l i (x ∷ a) d =
     last-first (set l i x) (suc i) a d ∙ rw (set_comm l i (suc i + length a) x d (λ e. omega arith), add-suc, ← suc-add)
-
--- a loop over the bytes: what is left, stored into the buffer as it is, gives the whole
-module _ (l : List ℕ) (at : ℕ) (bytes : List ℕ) (i : ℕ) (whole : List ℕ) (left : sets l (at + i) (drop i bytes) ≡ whole) where
-  pub paste-again : i < length bytes → sets (set l (at + i) (get_or bytes i 0)) (at + (i + 1)) (drop (i + 1) bytes) ≡ whole
-  paste-again h = rw (add-one, add-suc) (rw (drop-cons bytes i 0) at left)
-
-  pub paste-out : length bytes ≤ i → l ≡ whole
-  paste-out h = rw (drop_of_length-le bytes) at left
 
 over-sets : (bytes : List ℕ) (at : ℕ) (l : List ℕ) → at + length bytes ≤ length l → over_from at bytes l ≡ sets l at bytes
 over-sets bytes at l h = rw (sets-eq, drop-drop, append_assoc)
@@ -68,10 +59,6 @@ module _ (bytes : List ℕ) (at : ℕ) (l l₁ : List ℕ) (r : Printed) (answer
 
   pub had-room : r ≡ NoRoom → Laid l at bytes l₁ at
   had-room e = absurd (none-ne-some (length bytes) (rw e at (ap (λ (p : Placed). p.wrote) answered)))
-
--- where there is room for two texts there is room for the first
-pub room-front : (l : List ℕ) (at : ℕ) (a b : List ℕ) → at + length (a ++ b) ≤ length l → at + length a ≤ length l
-room-front l at a b h = omega (arith, simp length-append at h)
 
 -- one text after the other: what there is room for, and what comes of it
 module _ {l : List ℕ} {at : ℕ} {a : List ℕ} {l₁ : List ℕ} {r₁ : ℕ} (first : Laid l at a l₁ r₁) where
