@@ -1,4 +1,4 @@
--- The tests that make bytes a job, one by one, and the loop that reads words.
+-- The tests that make bytes a job, all together, and the loop that reads words.
 use Prim.Native.Nat.{ℕ, zero, suc, ◌+◌, ◌-◌, ◌*◌, ◌≤◌, ◌<◌}
 use native.Mathlib.Omega.{arith}
 use native.Mathlib.Nat.{zero-add}
@@ -9,51 +9,14 @@ use mathlib.Core.List.{List}
 use lib.ListN.{length, set}
 use lib.Seq.{sets, sets-eq}
 use lib.Dec.{leb}
-use borrow.Author.Tests.{le-leb, lt-leb, leb-true, eq-eqb, ne_eqb, eqb-true}
+use borrow.Author.Tests.{le-leb, leb-true, eq-eqb, eqb-true}
 use Rattle.scope.specs.Machine.{over}
 use Rattle.scope.specs.JobFile.{word_at, words_at, is_job, read_job, parsed, spilled_at, target_at, end_at}
 use Rattle.job.specs.Promises.{read_into, read_of}
 
 -- ---- Is it a job?
 
--- a false test makes the whole false, wherever it stands
-false-last : (x : Bool) → x && false ≡ false
-false-last true = refl
-false-last false = refl
-
 module _ (bs : List ℕ) where
-  pub too_short : length bs < 36 → false ≡ is_job bs
-  unfolding is_job
-  too_short h = rw (lt-leb 36 (length bs) h)
-
-  pub too_long : 16420 < length bs → false ≡ is_job bs
-  unfolding is_job
-  too_long h = rw (lt-leb (length bs) 16420 h, false-last)
-
-  pub start-elsewhere : (w : ℕ) → w ≡ word_at bs 4 → (w ≡ 36 → ⊥) → false ≡ is_job bs
-  unfolding is_job
-  start-elsewhere w e h = rw (← e, ne_eqb w 36 h, false-last)
-
-  pub spilled-elsewhere : (w a : ℕ) → w ≡ word_at bs 12 → a ≡ word_at bs 0 → (w ≡ 36 + 4 * a → ⊥) → false ≡ is_job bs
-  unfolding is_job
-  spilled-elsewhere w a e x h = rw (← e, ← x, ne_eqb w (36 + 4 * a) h, false-last)
-
-  pub target-elsewhere : (w a b : ℕ) → w ≡ word_at bs 20 → a ≡ word_at bs 0 → b ≡ word_at bs 8 → (w ≡ 36 + 4 * a + 4 * b → ⊥) → false ≡ is_job bs
-  unfolding is_job
-  target-elsewhere w a b e x y h = rw (← e, ← x, ← y, ne_eqb w (36 + 4 * a + 4 * b) h, false-last)
-
-  pub other_length : (a b c : ℕ) → a ≡ word_at bs 0 → b ≡ word_at bs 8 → c ≡ word_at bs 16 → (length bs ≡ 36 + 4 * a + 4 * b + 4 * c → ⊥) → false ≡ is_job bs
-  unfolding is_job
-  other_length a b c x y z h = rw (← x, ← y, ← z, ne_eqb (length bs) (36 + 4 * a + 4 * b + 4 * c) h, false-last)
-
-  pub swaps-too-far : (w : ℕ) → w ≡ word_at bs 28 → 255 < w → false ≡ is_job bs
-  unfolding is_job
-  swaps-too-far w e h = rw (← e, lt-leb w 255 h, false-last)
-
-  pub dups-too-far : (w : ℕ) → w ≡ word_at bs 32 → 255 < w → false ≡ is_job bs
-  unfolding is_job
-  dups-too-far w e h = rw (← e, lt-leb w 255 h, false-last)
-
   module _ (a b c o p q s d : ℕ) (wa : a ≡ word_at bs 0) (wo : o ≡ word_at bs 4) (wb : b ≡ word_at bs 8) (wp : p ≡ word_at bs 12)
       (wc : c ≡ word_at bs 16) (wq : q ≡ word_at bs 20) (ws : s ≡ word_at bs 28) (wd : d ≡ word_at bs 32) where
     pub a-job : 36 ≤ length bs → length bs ≤ 16420 → o ≡ 36 → p ≡ 36 + 4 * a → q ≡ 36 + 4 * a + 4 * b
@@ -78,8 +41,6 @@ module _ (bs : List ℕ) where
           le-leb s 255 h7,
           le-leb d 255 h8,
         )
-
-pub ruleset job-tests = (too_short, too_long, start-elsewhere, spilled-elsewhere, target-elsewhere, other_length, swaps-too-far, dups-too-far)
 
 -- ---- Words from a place on
 
@@ -148,10 +109,6 @@ is-a-job bs b e t =
 -- ---- What reading answers
 
 module _ (bs x y z : List ℕ) (flag : Bool) (asked : flag ≡ is_job bs) where
-  pub read_none : flag ≡ false → read_of (record { code = 13; starts = 0; spills = 0; targets = 0; first = 0; max_swap = 0; max_dup = 0 }) x y z ≡ read_into (parsed bs) x y z
-  unfolding parsed
-  read_none h = rw (← asked, h)
-
   pub read_some : flag ≡ true → (a b c f s d : ℕ) (x' y' z' : List ℕ)
       → a ≡ word_at bs 0 → b ≡ word_at bs 8 → c ≡ word_at bs 16 → f ≡ word_at bs 24 → s ≡ word_at bs 28 → d ≡ word_at bs 32
       → x' ≡ over (words_at bs 36 a) x → y' ≡ over (words_at bs (36 + 4 * a) b) y → z' ≡ over (words_at bs (36 + 4 * a + 4 * b) c) z

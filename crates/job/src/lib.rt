@@ -50,6 +50,7 @@ fn read_words(bytes: &[u8], at: usize, count: usize, words: &mut [u32])
 }
 
 // Are the bytes a job? Each offset is tested, also that of an empty list; the sums are of 64 bits and do not wrap.
+#[tactic(auto, unfolding(scope::specs::JobFile::is_job))]
 pub fn is_job(bytes: &[u8]) -> bool
     ensures { result ≡ is_job bytes.now }
 {
@@ -85,6 +86,7 @@ pub fn is_job(bytes: &[u8]) -> bool
 }
 
 // The job that the bytes are, its lists at the low ends of three buffers; 13 and the buffers as lent where they are none.
+#[tactic(auto, unfolding(scope::specs::JobFile::is_job, scope::specs::JobFile::parsed))]
 pub fn read_job(
     bytes: &[u8],
     start: &mut [u32; 4096],
