@@ -1,7 +1,6 @@
 -- Pieces of text, one after the other, and the whole answer.
-use Prim.Native.Nat.{ℕ, ◌+◌, ◌-◌, ◌*◌, ◌/◌, ◌≤◌, ◌<◌, min}
+use Prim.Native.Nat.{ℕ, ◌+◌, ◌*◌, ◌/◌, ◌≤◌, ◌<◌, min}
 use native.Mathlib.Omega.{arith}
-use native.Mathlib.Nat.{add-zero}
 use mathlib.Core.Path.{◌≡◌, refl, sym, ap, ◌∙◌}
 use mathlib.Core.Bool.{Bool, true, false, true≢false, false≢true}
 use mathlib.Core.Option.{Option, none, some}
@@ -12,15 +11,14 @@ use borrow.Author.Tests.{lt-ltb, le-ltb, lt-leb}
 use Rattle.scope.specs.declared.Op.{Op}
 use Rattle.scope.specs.declared.StackOps.{StackOps}
 use Rattle.scope.specs.Stack.{decimal, printed, stack_op}
-use Rattle.scope.specs.declared.Op.TheVariants.{Swap, Dup, Pop, Store, Load}
-use Rattle.scope.specs.Machine.{gas_of, gas_total}
+use Rattle.scope.specs.Machine.{gas_total}
 use Rattle.scope.specs.JobFile.{op_lines, answer_lines}
 use Rattle.printing.specs.Promises.{Laid, placed}
 use Rattle.printing.proofs.Pasting.{then, placed-fits}
 use Rattle.answer.specs.declared.Answer.{Answer}
 use Rattle.answer.specs.declared.Written.TheVariants.{Wrote, NoRoom, NoOperations}
 use Rattle.answer.specs.declared.Said.{Said}
-use Rattle.answer.specs.declared.Said.TheVariants.{Is, Nothing}
+use Rattle.answer.specs.declared.Said.TheVariants.{Is}
 use Rattle.answer.specs.Promises.{said_of, line_of, ops_in, all_some, lines_in, gas_in, Labelled, run_part, head_line, shown, writes, writes_ops, as_written, written_of}
 use Rattle.answer.proofs.Words.{told}
 
@@ -28,17 +26,6 @@ use Rattle.answer.proofs.Words.{told}
 module _ (x : Option Op) (r : Said) (is : said_of r ≡ x) where
   pub line-said : (o : Op) (s : StackOps) → r ≡ Is o → s ≡ stack_op o → line_of x ≡ printed s ++ (10 ∷ [])
   line-said o s e f = rw (← is, e, f)
-
-  pub no_line : (l : List ℕ) (at : ℕ) → r ≡ Nothing → Laid l at (line_of x) l at
-  no_line l at e = rw (← is, e) (record { bytes-are = refl; next-is = sym (add-zero at) })
-
--- an operation costs six at most
-pub little-gas : (o : Op) → gas_of o ≤ 6
-little-gas (Swap k) = omega arith
-little-gas (Dup k) = omega arith
-little-gas Pop = omega arith
-little-gas (Store id) = omega arith
-little-gas (Load id) = omega arith
 
 -- a label after a text
 pub label_after : {l : List ℕ} {at : ℕ} {a l₁ : List ℕ} {r₁ : ℕ} {t : List ℕ} {n : ℕ} {l₂ : List ℕ} {r₂ : ℕ} → Laid l at a l₁ r₁ → Labelled l₁ r₁ t n l₂ r₂ → Laid l at (a ++ t ++ decimal n) l₂ r₂
