@@ -3,29 +3,14 @@ use Prim.Native.Nat.{ℕ, ◌≤◌}
 use native.Mathlib.Omega.{arith}
 use mathlib.Core.Path.{◌≡◌, refl, sym, ap, ◌∙◌}
 use mathlib.Core.Bool.{Bool, true, false, true≢false, false≢true}
-use mathlib.Core.List.{List, [], ◌∷◌}
+use mathlib.Core.List.{List}
 use lib.ListN.{length}
-use types.Run.{OneOf, miss}
-use denote.Enum.Declared.{tag_of}
-use Rattle.rules.specs.contracts.Choice.{the_type}
 use Rattle.scope.specs.Rules.{Job, State, Plan, pass, ◌▹◌}
 use Rattle.rules.specs.declared.Choice.{Choice}
 use Rattle.rules.specs.declared.Choice.TheVariants.{Pass, Pop, Swap, SwapPop, Swaps, Store, Load, Dup, Refuse}
 use Rattle.rules.specs.Promises.{Chosen, plan_of, applies, job, state, ◌then◌}
 
 -- ---- which choices apply
-
--- every variant but the first
-pub applies-rest : (a : Choice) → OneOf (1 ∷ 2 ∷ 3 ∷ 4 ∷ 5 ∷ 6 ∷ 7 ∷ 8 ∷ []) (tag_of the_type a) → true ≡ applies a
-applies-rest Pass k = absurd (miss (1 ∷ 2 ∷ 3 ∷ 4 ∷ 5 ∷ 6 ∷ 7 ∷ 8 ∷ []) 0 tt k)
-applies-rest Pop k = refl
-applies-rest (Swap d) k = refl
-applies-rest (SwapPop d) k = refl
-applies-rest (Swaps q p) k = refl
-applies-rest Store k = refl
-applies-rest (Load i) k = refl
-applies-rest (Dup d) k = refl
-applies-rest (Refuse r) k = refl
 
 module _ (first m : ℕ) where
   applied : (a : Choice) (q : Plan) → applies a ≡ true → (plan_of first m a ▹ q) ≡ plan_of first m a
