@@ -97,9 +97,6 @@ nothing l at = some-laid (none-laid l at)
 pub and_then : {l : List ℕ} {at : ℕ} {m : List ℕ} {e : ℕ} {l₂ : List ℕ} {e₂ : ℕ} → Wrote l at m e → Wrote m e l₂ e₂ → Wrote l at l₂ e₂
 and_then h g = some-laid (then h.lays g.lays)
 
-pub wrote-long : {l : List ℕ} {at : ℕ} {m : List ℕ} {e : ℕ} → Wrote l at m e → length m ≡ length l
-wrote-long {l} {at} h = ap length h.lays.bytes-are ∙ length-sets l at h.text
-
 pub laid_then : {l : List ℕ} {at : ℕ} {t m : List ℕ} {e : ℕ} {l₂ : List ℕ} {e₂ : ℕ} → Lays l at t m e → Wrote m e l₂ e₂ → Wrote l at l₂ e₂
 laid_then h g = and_then (some-laid h) g
 
@@ -111,9 +108,6 @@ pub record Going (l : List ℕ) (at : ℕ) (whole left now : List ℕ) (end : �
   pub so_far : List ℕ
   pub laid : Lays l at so_far now end
   pub joined : so_far ++ left ≡ whole
-
-pub going : (l : List ℕ) (at : ℕ) (whole : List ℕ) → Going l at whole whole l at
-going l at whole = record { so_far = []; laid = none-laid l at; joined = refl }
 
 pub goes_on : {l : List ℕ} {at : ℕ} {whole a left now : List ℕ} {end : ℕ} {now₁ : List ℕ} {end₁ : ℕ} → Going l at whole (a ++ left) now end → Lays now end a now₁ end₁ → Going l at whole left now₁ end₁
 goes_on {a = a} {left = left} g h = record { so_far = g.so_far ++ a; laid = then g.laid h; joined = append_assoc g.so_far a left ∙ g.joined }

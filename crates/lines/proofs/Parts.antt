@@ -6,8 +6,8 @@ use mathlib.Core.Path.{◌≡◌, sym, ap, subst, ◌∙◌}
 use mathlib.Core.Option.{Option, none, some}
 use mathlib.Core.List.{List, [], ◌∷◌, ◌++◌}
 use lib.ListN.{length, get_or, take, drop, replicate, length-append, length-take, drop_of_length-le}
-use lib.Seq.{sets, sets-eq, length-sets, take_at, drop-cons, get_or-take}
-use borrow.Author.Tests.{lt-ltb, le-ltb, ne_eqb}
+use lib.Seq.{sets, sets-eq, take_at, drop-cons, get_or-take}
+use borrow.Author.Tests.{lt-ltb, ne_eqb}
 use Rattle.scope.specs.declared.Op.{Op}
 use Rattle.scope.specs.declared.Op.TheVariants.{Swap, Dup, Pop, Store, Load}
 use Rattle.scope.specs.Replay.{decoded}
@@ -17,7 +17,7 @@ use Rattle.printing.specs.declared.Printed.{Printed}
 use Rattle.printing.proofs.Pasting.{placed-fits}
 use Rattle.printing.proofs.Digits.{twenty}
 use Rattle.lines.specs.Promises.{Lays, blanks, column, no_operation, spelled_op, spelled, operation_column, each, rest_of, values_text, slot_number, slot_text, each_slot, front_of, slots_text}
-use Rattle.lines.proofs.Laying.{none-laid, then, Going, goes_on, gone}
+use Rattle.lines.proofs.Laying.{then, Going, goes_on, gone}
 
 -- the digits as they lie in a buffer of their own
 digits : (n len : ℕ) (d : List ℕ) (r : Printed) → len ≡ length (decimal n) → placed_of r d ≡ placed (decimal n) 0 (replicate 20 0) → take len d ≡ decimal n
@@ -29,9 +29,6 @@ digits n len d r e answer =
 module _ {l : List ℕ} {at : ℕ} {m : List ℕ} {e : ℕ} where
   pub number-laid : (n len : ℕ) (d : List ℕ) (r : Printed) → len ≡ length (decimal n) → placed_of r d ≡ placed (decimal n) 0 (replicate 20 0) → Lays l at (take len d) m e → Lays l at (decimal n) m e
   number-laid n len d r c answer h = subst (λ (t : List ℕ). Lays l at t m e) (digits n len d r c answer) h
-
-  pub blanks-laid : (n k : ℕ) → k ≡ min n 18 → Lays l at (take k (replicate 18 32)) m e → Lays l at (blanks n) m e
-  blanks-laid n k c h = subst (λ (k : ℕ). Lays l at (take k (replicate 18 32)) m e) c h
 
   pub column-laid : (n len width gap : ℕ) {l₂ : List ℕ} {e₂ : ℕ} → len ≡ length (decimal n) → gap ≡ width - len → Lays l at (decimal n) m e → Lays m e (blanks gap) l₂ e₂ → Lays l at (column n width) l₂ e₂
   column-laid n len width gap {l₂} {e₂} c g h k = then h (subst (λ (x : ℕ). Lays m e (blanks x) l₂ e₂) (g ∙ ap (λ (x : ℕ). width - x) c) k)
@@ -66,25 +63,10 @@ module _ {l : List ℕ} {at : ℕ} {m : List ℕ} {e : ℕ} where
   unfolding spelled
   spelled_none k a n1 n2 n3 n4 n5 h = rw (ne_eqb k 1 n1, ne_eqb k 2 n2, ne_eqb k 3 n3, ne_eqb k 4 n4, ne_eqb k 5 n5) h
 
-  -- ---- What follows the values, and what stands before the slots
-
-  pub rest-none : (n : ℕ) → n ≡ 0 → Lays l at (32 ∷ 45 ∷ []) m e → Lays l at (rest_of n) m e
-  rest-none n c h = rw c h
+  -- ---- What follows the values, where not all are shown
 
   pub rest_more : (n : ℕ) {l₂ : List ℕ} {e₂ : ℕ} → (n ≡ 0 → ⊥) → 17 < n → Lays l at ((32 ∷ 46 ∷ 46 ∷ 46 ∷ 32 ∷ 40 ∷ []) ++ decimal n) m e → Lays m e (32 ∷ 105 ∷ 110 ∷ 32 ∷ 97 ∷ 108 ∷ 108 ∷ 41 ∷ []) l₂ e₂ → Lays l at (rest_of n) l₂ e₂
   rest_more n {l₂} {e₂} c g h k = rw (ne_eqb n 0 c, lt-ltb 17 n g) (then h k)
-
-  pub front-none : (n : ℕ) → n ≡ 0 → Lays l at (32 ∷ 45 ∷ []) m e → Lays l at (front_of n) m e
-  front-none n c h = rw c h
-
-  pub front-more : (n : ℕ) → (n ≡ 0 → ⊥) → 8 < n → Lays l at (32 ∷ 46 ∷ 46 ∷ 46 ∷ []) m e → Lays l at (front_of n) m e
-  front-more n c g h = rw (ne_eqb n 0 c, lt-ltb 8 n g) h
-
-pub rest_all : (l : List ℕ) (at n : ℕ) → (n ≡ 0 → ⊥) → n ≤ 17 → Lays l at (rest_of n) l at
-rest_all l at n c g = rw (ne_eqb n 0 c, le-ltb 17 n g) (none-laid l at)
-
-pub front-all : (l : List ℕ) (at n : ℕ) → (n ≡ 0 → ⊥) → n ≤ 8 → Lays l at (front_of n) l at
-front-all l at n c g = rw (ne_eqb n 0 c, le-ltb 8 n g) (none-laid l at)
 
 module _ {l : List ℕ} {at : ℕ} {m : List ℕ} {e : ℕ} {l₂ : List ℕ} {e₂ : ℕ} where
   pub unknown-laid : (k a : ℕ) → Lays l at (107 ∷ 105 ∷ 110 ∷ 100 ∷ 32 ∷ decimal k) m e → Lays m e (32 ∷ 97 ∷ 114 ∷ 103 ∷ 117 ∷ 109 ∷ 101 ∷ 110 ∷ 116 ∷ 32 ∷ decimal a) l₂ e₂ → Lays l at (no_operation k a) l₂ e₂
@@ -117,9 +99,6 @@ operation-laid k a gap {m = m} {l₂} {e = e} {e₂} {len} long measured g h b =
     then h (subst (λ (x : ℕ). Lays m e (blanks x) l₂ e₂) (g ∙ ap (λ (x : ℕ). 18 - x) q) b)
 
 -- ---- The loops over values and over slots
-
-pub going-long : {l : List ℕ} {at : ℕ} {whole left now : List ℕ} {end : ℕ} → Going l at whole left now end → length now ≡ length l
-going-long {l} {at} g = ap length g.laid.bytes-are ∙ length-sets l at g.so_far
 
 shown : (values : List ℕ) (i n : ℕ) → i < n → n ≡ min 17 (length values) → each (drop i (take 17 values)) ≡ (32 ∷ decimal (get_or values i 0)) ++ each (drop (suc i) (take 17 values))
 unfolding each
