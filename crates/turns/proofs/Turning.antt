@@ -17,9 +17,8 @@ use Rattle.tracked.specs.declared.Numbers.{Numbers}
 use Rattle.tracked.specs.Promises.{tracked_in, Steps, Spills}
 use Rattle.answer.specs.Promises.{said, said_of}
 use Rattle.answer.specs.declared.Said.{Said}
-use Rattle.answer.specs.declared.Said.TheVariants.{Is, Nothing}
-use Rattle.rules.specs.Promises.{counted_in}
-use Rattle.turns.specs.Promises.{one_record, leaves_slots, step_of, step_said, Turned, within, kept, completed_in}
+use Rattle.answer.specs.declared.Said.TheVariants.{Nothing}
+use Rattle.turns.specs.Promises.{one_record, leaves_slots, step_of, step_said, Turned, within, kept}
 
 module _ {s : Step} {n : Numbers} {before after words : List ℕ} where
   stepped : {to : Stepped} (spill : List ℕ) → Steps to s n before after words → Turned (leaves_slots to spill) before n after spill
@@ -46,9 +45,6 @@ module _ {s : Step} {n : Numbers} {before after words : List ℕ} where
     unfolding step_of
     turned-store id e h = rw e (record { state = ap (λ (q : Spilled). q.step.state) h.answer; array = h.array; slots = ap (λ (q : Spilled). q.spill) h.answer })
 
-pub said-done : (k a : ℕ) (r : Said) (o : Op) (t : Tracked) (spill : List ℕ) {before after spill₁ : List ℕ} {n : Numbers} → said_of r ≡ said k a → r ≡ Is o → Turned (step_of o t spill) before n after spill₁ → Turned (step_said (said k a) t spill) before n after spill₁
-said-done k a r o t spill e i h = rw (← e, i) h
-
 pub said-none : (k a : ℕ) (r : Said) (raw : List ℕ) (n : Numbers) (spill : List ℕ) → said_of r ≡ said k a → r ≡ Nothing → Turned (step_said (said k a) (tracked_in raw n) spill) raw n raw spill
 unfolding tracked_in
 said-none k a r raw n spill e i = rw (← e, i) (record { state = refl; array = laid-fifo raw n.len; slots = refl })
@@ -73,6 +69,3 @@ module _ (C T : List ℕ) (before e p : ℕ) (end : e ≡ within C T before) (le
 
 pub kept_again : (C T : List ℕ) (e p : ℕ) (w : Bool) → p < e → w ≡ differs C T p → w ≡ false → lowest p e (differs C T) ≡ lowest 0 e (differs C T) → lowest (p + 1) e (differs C T) ≡ lowest 0 e (differs C T)
 kept_again C T e p w h q t k = lowest-again 0 e p (differs C T) h (sym q ∙ t) k
-
-pub completed-is : (C T : List ℕ) (before from r : ℕ) → from ≡ kept C T before → r ≡ counted_in C T from → r ≡ completed_in C T before
-completed-is C T before from r e h = h ∙ ap (λ (k : ℕ). counted_in C T k) e
