@@ -1,9 +1,9 @@
 -- A line that is the same as an operation's form is that operation; a list's words grow at their end.
-use Prim.Native.Nat.{ℕ, ◌+◌, ◌*◌, ◌/◌, ◌-◌, ◌≤◌, ◌<◌}
+use Prim.Native.Nat.{ℕ, ◌+◌, ◌*◌}
 use native.Mathlib.Omega.{arith}
-use mathlib.Core.Path.{◌≡◌, refl, sym, ap, ◌∙◌}
-use mathlib.Core.Bool.{Bool, true, false, true≢false, false≢true}
-use mathlib.Core.List.{List, []}
+use mathlib.Core.Path.{◌≡◌, sym, ap, ◌∙◌}
+use mathlib.Core.Bool.{Bool, true}
+use mathlib.Core.List.{List}
 use lib.ListN.{length, set, take, drop, replicate, length-set}
 use lib.Seq.{sets-eq, take_at, drop-set-lt, drop-drop}
 use Rattle.scope.specs.Words.{same_list}
@@ -25,19 +25,7 @@ pub read-it : (line text : List ℕ) (k a len : ℕ) (b : Bool) → Lays (replic
 read-it line text k a len b h s t nz =
     record { sound = λ z. same-eq line (take len text) (sym s ∙ t) ∙ form k a len text h; none = λ z. absurd (nz z) }
 
-pub read_none : (line : List ℕ) → ReadAs line (record { kind = 0; argument = 0 })
-read_none line = record { sound = λ z. absurd (z refl); none = λ z. refl }
-
 -- ---- The words
-
-pub stored-none : (ops : ℕ) (o : Record) (words : List ℕ) → Stored ops o false words words
-stored-none ops o words = record { taken = λ z. absurd (false≢true z); full = λ z. refl }
-
-pub stored_one : (ops : ℕ) (o : Record) (words : List ℕ) → ops < length words / 2 → Stored ops o true words (set (set words (2 * ops) o.kind) (2 * ops + 1) o.argument)
-stored_one ops o words h = record { taken = λ z. (omega arith, refl); full = λ z. absurd (true≢false z) }
-
-pub so-none : (words : List ℕ) → Lists 0 words words
-so-none words = record { fits = omega arith; long = refl; beyond = refl }
 
 so-one : {ops : ℕ} {o : Record} {b : Bool} {before now now₁ : List ℕ} → Lists ops before now → Stored ops o b now now₁ → b ≡ true → Lists (ops + 1) before now₁
 so-one {ops} {o} {before = before} {now = now} s t e =
@@ -52,14 +40,5 @@ so-one {ops} {o} {before = before} {now = now} s t e =
       beyond = drop-set-lt (2 * (ops + 1)) (set now (2 * ops) o.kind) (2 * ops + 1) o.argument (omega arith) ∙ drop-set-lt (2 * (ops + 1)) now (2 * ops) o.kind (omega arith) ∙ d;
     })
 
-pub takes_none : (ops : ℕ) (words : List ℕ) → Takes ops ops words words
-takes_none ops words = record { keeps = λ before h. h }
-
 pub takes_one : (ops : ℕ) (o : Record) (b : Bool) (words after : List ℕ) → Stored ops o b words after → b ≡ true → Takes ops (ops + 1) words after
 takes_one ops o b words after t e = record { keeps = λ before h. so-one h t e }
-
-pub takes-full : (ops : ℕ) (o : Record) (b : Bool) (words after : List ℕ) → Stored ops o b words after → b ≡ false → Takes ops ops words after
-takes-full ops o b words after t e = record { keeps = λ before h. rw (t.full e) h }
-
-pub room : (ops : ℕ) (o : Record) (b : Bool) (words after : List ℕ) → Stored ops o b words after → b ≡ true → 2 * ops + 2 ≤ length words
-room ops o b words after t e = (t.taken e).0
