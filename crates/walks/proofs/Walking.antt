@@ -1,9 +1,9 @@
 -- A line is its parts, one after the other; a trace is some text after some text.
-use Prim.Native.Nat.{ℕ, ◌≤◌, ◌<◌}
+use Prim.Native.Nat.{ℕ, ◌<◌}
 use mathlib.Core.Path.{◌≡◌, ap, subst, ◌∙◌}
 use mathlib.Core.List.{List, [], ◌∷◌, ◌++◌}
 use lib.ListN.{length}
-use borrow.Author.Tests.{lt-ltb, le-ltb}
+use borrow.Author.Tests.{lt-ltb}
 use Rattle.scope.specs.Stack.{fifo}
 use Rattle.scope.specs.Tracked.{stored_in}
 use Rattle.tracked.specs.declared.Numbers.{Numbers}
@@ -17,9 +17,6 @@ use Rattle.walks.specs.Promises.{filled_text, fresh, OneTurn}
 
 pub filled_more : (first before : ℕ) (slots : List ℕ) {l m l₂ l₃ : List ℕ} {at e e₂ e₃ : ℕ} → before < length slots → Lays l at (32 ∷ 32 ∷ 115 ∷ 108 ∷ 111 ∷ 116 ∷ 115 ∷ []) m e → Lays m e (slots_text first slots) l₂ e₂ → Lays l₂ e₂ (10 ∷ []) l₃ e₃ → Lays l at (filled_text first before slots) l₃ e₃
 filled_more first before slots h a b d = rw (lt-ltb before (length slots) h) (then (then a b) d)
-
-pub filled-same : (first before : ℕ) (slots : List ℕ) {l m : List ℕ} {at e : ℕ} → length slots ≤ before → Lays l at (10 ∷ []) m e → Lays l at (filled_text first before slots) m e
-filled-same first before slots h a = rw (le-ltb before (length slots) h) a
 
 module _ (out raw spill target : List ℕ) (w : Walk) (index k a : ℕ) (numbers : Numbers) (done shown end : ℕ) (values slots out₀ out₁ raw₁ spill₁ : List ℕ) where
   pub one-turn : Turned (step_said (said k a) (tracked_in raw (fresh w.numbers)) spill) raw numbers raw₁ spill₁
