@@ -1,16 +1,14 @@
 -- The returns of the entries: refused by codes 1 to 5, or the run's own end, seen as scope sees it.
-use Prim.Native.Nat.{ℕ, zero, suc, ◌+◌, ◌-◌, ◌<◌, ◌≤◌}
+use Prim.Native.Nat.{ℕ, ◌-◌, ◌≤◌}
 use native.Mathlib.Omega.{arith}
 use mathlib.Core.Path.{◌≡◌, refl, sym, ap, ◌∙◌}
-use mathlib.Core.Bool.{Bool, true, false}
-use mathlib.Core.List.{List, [], ◌∷◌}
+use mathlib.Core.List.{List}
 use borrow.Author.Tests.{le-ltb}
-use lib.ListN.{length, take, drop, length-drop}
-use Rattle.scope.specs.Words.{if_zero, Stack, stack_of}
+use lib.ListN.{length, drop, length-drop}
+use Rattle.scope.specs.Words.{stack_of}
 use Rattle.scope.specs.Stack.{fifo, kept, Left, made_from}
-use Rattle.scope.specs.Shuffle.{job_code, code_of, started, run_from, shuffle}
-use Rattle.scope.specs.Tracked.{Tracked}
-use Rattle.scope.specs.Once.{Lent, job_lent, start_lent, Seen, shuffle_due}
+use Rattle.scope.specs.Shuffle.{job_code, code_of, run_from}
+use Rattle.scope.specs.Once.{Lent, job_lent, start_lent, shuffle_due}
 use Rattle.scope.proofs.JobCodes.{Passes, passes}
 use Rattle.scope.proofs.Loops.{if-not}
 use Rattle.operations.specs.declared.ScheduleConfig.{ScheduleConfig}
@@ -23,11 +21,9 @@ use Rattle.tracked_state.specs.Promises.{tracked_of}
 use Rattle.shuffler.specs.declared.Answer.{Answer}
 use Rattle.shuffler.specs.declared.Ended.{Ended}
 use Rattle.shuffler.specs.declared.Progress.{Progress}
-use Rattle.shuffler.specs.Held.{Holding}
 use Rattle.shuffler.specs.Runs.{Tells}
-use Rattle.shuffler.specs.Entry.{begins}
 use Rattle.shuffler.specs.Performing.{holding}
-use Rattle.shuffler.specs.Promises.{seen_in, answer_in, stopped_at, lent_plain, lent_state, state_due, KeptIfRefused, Refuses}
+use Rattle.shuffler.specs.Promises.{seen_in, answer_in, stopped_at, lent_plain, lent_state, state_due, Refuses}
 use Rattle.shuffler.proofs.Entry.{entry_done, entry-refused, state-done}
 
 -- an empty answer
@@ -76,9 +72,6 @@ module _ (s : TrackedState) (spill target : List ℕ) (config : ScheduleConfig) 
   pub run-keeps : (code ≡ 0 → ⊥) → tracked_of s ≡ state_due (lent_state s spill target config words)
   unfolding state_due tracked_in
   run-keeps ne = let e = lent_state s spill target config words in sym (if-not (code_of (job_lent e) (start_lent e)) _ (tracked_of s) (λ z. ne (is ∙ z)))
-
-  pub run-goes : (after : TrackedState) → code ≡ 0 → KeptIfRefused (lent_state s spill target config words) s after
-  run-goes after z = record { keeps = λ ne. absurd (ne (sym is ∙ z)) }
 
   module _ (raw' spill' words' : List ℕ) (e : Ended) (z : code ≡ 0)
       (full : length s.stack.stack_raw ≡ 1024)

@@ -1,21 +1,19 @@
 -- The two ends of an entry: refused before the run, or the run's own end.
-use Prim.Native.Nat.{ℕ, zero, suc, ◌+◌, ◌-◌, ◌*◌, ◌<◌, ◌≤◌}
+use Prim.Native.Nat.{ℕ, ◌+◌, ◌-◌, ◌*◌}
 use native.Mathlib.Omega.{arith}
 use mathlib.Core.Path.{◌≡◌, refl, sym, ap, ◌∙◌}
-use mathlib.Core.Bool.{Bool, true, false}
-use mathlib.Core.List.{List, [], ◌∷◌, ◌++◌}
-use lib.ListN.{length, take, drop, length-take, take-append-drop}
+use mathlib.Core.List.{[]}
+use lib.ListN.{length, take, take-append-drop}
 use lib.Seq.{length-take-le}
-use Rattle.scope.specs.Words.{if_zero, Stack, stack_of}
-use Rattle.scope.specs.Machine.{words_of, over, over_from}
-use Rattle.scope.specs.Rules.{Job, State}
-use Rattle.scope.specs.Shuffle.{job_code, code_of, result, started, run_from, shuffle}
+use Rattle.scope.specs.Words.{Stack, stack_of}
+use Rattle.scope.specs.Machine.{words_of}
+use Rattle.scope.specs.Shuffle.{code_of, result, started, run_from, shuffle}
 use Rattle.scope.specs.Tracked.{Tracked}
-use Rattle.scope.specs.Once.{Lent, job_lent, start_lent, Seen, seen_of, shuffle_due}
+use Rattle.scope.specs.Once.{Lent, job_lent, start_lent, shuffle_due}
 use Rattle.scope.proofs.JobCodes.{Passes}
-use Rattle.scope.proofs.Loops.{if-zero, if-not}
+use Rattle.scope.proofs.Loops.{if-not}
 use Rattle.shuffler.specs.Held.{Holding, Held}
-use Rattle.shuffler.specs.Runs.{About, Told, Tells}
+use Rattle.shuffler.specs.Runs.{Tells}
 use Rattle.shuffler.specs.Entry.{begins}
 
 -- a tracked stack by its fields

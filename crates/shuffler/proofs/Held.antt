@@ -1,22 +1,21 @@
 -- One tracked call on what is held is one operation on the state: the same code, and the state after it is held.
 use Rattle.std.specs.Prelude.{if◌then◌else◌}
-use Prim.Native.Nat.{ℕ, zero, suc, ◌+◌, ◌-◌, ◌*◌, ◌/◌, ◌≤◌, ◌<◌, min}
+use Prim.Native.Nat.{ℕ, suc, ◌+◌, ◌-◌, ◌*◌, ◌≤◌, ◌<◌}
 use native.Mathlib.Omega.{arith}
-use native.Mathlib.Numerals.{add-one}
 use mathlib.Core.Path.{◌≡◌, refl, sym, ap, ◌∙◌, subst}
 use mathlib.Core.Bool.{Bool, true, false, true≢false}
-use mathlib.Core.List.{List, [], ◌∷◌, ◌++◌, append_assoc, append-nil}
+use mathlib.Core.List.{List, [], ◌∷◌, ◌++◌, append_assoc}
 use lib.ListN.{length, get_or, set, take, drop, length-append, length-take, length-drop, length-set}
-use lib.Seq.{set_at, take_at, drop-cons, drop-drop, length-take-le, drop-append-add, take-append_seam}
+use lib.Seq.{set_at, drop-cons, drop-drop, length-take-le, take-append_seam}
 use lib.Dec.{eqb, leb, ltb}
-use borrow.Author.Tests.{leb-true, leb-false, le-leb, lt-leb, le-ltb, lt-ltb, eq-eqb, ne_eqb}
+use borrow.Author.Tests.{leb-true, leb-false, le-leb, lt-leb, le-ltb, ne_eqb}
 use Rattle.scope.specs.declared.Op.{Op}
 use Rattle.scope.specs.declared.Op.TheVariants.{Swap, Dup, Pop, Store, Load}
-use Rattle.scope.specs.Words.{if_zero, Stack, stack_of}
+use Rattle.scope.specs.Words.{Stack, stack_of}
 use Rattle.scope.specs.Machine.{capacity, swapped, kind, argument, words_of, over, over_from}
-use Rattle.scope.specs.Rules.{Job, State}
-use Rattle.scope.specs.Shuffle.{no_record, refusal, after, Ended, ended, perform}
-use Rattle.scope.specs.Tracked.{Tracked, Stepped, emitted, writes, pop_step, swap_step, dup_step, load_step, spill_step, refused_step}
+use Rattle.scope.specs.Rules.{State}
+use Rattle.scope.specs.Shuffle.{no_record, refusal, after, perform}
+use Rattle.scope.specs.Tracked.{Stepped, emitted, writes, pop_step, swap_step, dup_step, load_step, spill_step, refused_step}
 use Rattle.scope.specs.Once.{Lent, job_lent}
 use Rattle.scope.proofs.Exact.{even-words}
 use Rattle.shuffler.specs.Held.{Holding, Held, stepped, Ran}

@@ -1,35 +1,30 @@
 -- Performing a choice: each tracked call is one operation of the plan, and two operations are one after the other.
 use Rattle.std.specs.Prelude.{if◌then◌else◌}
-use Prim.Native.Nat.{ℕ, zero, suc, ◌+◌, ◌-◌, ◌/◌, ◌<◌, ◌≤◌}
+use Prim.Native.Nat.{ℕ, zero, suc, ◌+◌, ◌/◌, ◌<◌, ◌≤◌}
 use native.Mathlib.Omega.{arith}
 use mathlib.Core.Path.{◌≡◌, refl, sym, ap, ◌∙◌}
 use mathlib.Core.Bool.{Bool, true, false}
-use mathlib.Core.Option.{Option, none, some, none-ne-some, some-ne-none, some-injective}
-use mathlib.Core.List.{List, [], ◌∷◌, ◌++◌, append-nil}
+use mathlib.Core.Option.{some, none-ne-some, some-ne-none, some-injective}
+use mathlib.Core.List.{List, [], ◌∷◌, append-nil}
 use borrow.Author.Tests.{eqb-false, eq-eqb, ne_eqb, le-ltb}
 use lib.ListN.{length, drop, length-drop, length-set}
 use lib.Dec.{eqb, leb, ltb}
-use Rattle.scope.specs.declared.Op.{Op}
-use Rattle.scope.specs.declared.Op.TheVariants.{Swap, Dup, Pop, Store, Load}
-use Rattle.scope.specs.declared.Step.{Step}
-use Rattle.scope.specs.declared.Step.TheVariants.{Wrote, Refused}
+use Rattle.scope.specs.declared.Op.TheVariants.{Swap, Pop}
 use Rattle.scope.specs.declared.Word.{Word}
 use Rattle.scope.specs.declared.Word.TheVariants.{Is, Nothing}
 use Rattle.scope.specs.Words.{if_zero}
 use Rattle.scope.specs.Stack.{fifo, word_of}
 use Rattle.scope.specs.Rules.{Job, State}
 use Rattle.scope.specs.Shuffle.{Ended, ended, after as after_op, perform, no_record}
-use Rattle.scope.specs.Tracked.{Tracked, Stepped, Spilled, step_code, pop_step, swap_step, dup_step, load_step, spill_step, numbered}
+use Rattle.scope.specs.Tracked.{Stepped, pop_step, swap_step, dup_step, load_step, spill_step, numbered}
 use Rattle.scope.specs.Once.{Lent, job_lent}
-use Rattle.rules.specs.declared.Choice.{Choice}
 use Rattle.rules.specs.declared.Choice.TheVariants as C
-use Rattle.rules.specs.Promises.{plan_of, Fit, swap_of}
-use Rattle.tracked.specs.declared.Numbers.{Numbers}
+use Rattle.rules.specs.Promises.{swap_of}
 use Rattle.tracked.specs.declared.Moved.{Moved}
-use Rattle.tracked.specs.Promises.{tracked_in, stepped_in, Steps, Spills}
+use Rattle.tracked.specs.Promises.{tracked_in, Steps, Spills}
 use Rattle.shuffler.specs.declared.Progress.{Progress}
 use Rattle.shuffler.specs.declared.Performed.{Performed}
-use Rattle.shuffler.specs.Held.{Holding, Held, stepped, Ran}
+use Rattle.shuffler.specs.Held.{Held, stepped, Ran}
 use Rattle.shuffler.specs.Performing.{holding, moved_to, Performs}
 use Rattle.shuffler.proofs.Held.{pop-ran, swap-ran, dup-ran, load-ran, store-ran}
 use Rattle.shuffler.proofs.Runs.{height, seq-stop, seq-go}
@@ -48,14 +43,6 @@ slot_is first i id e = go (ltb 4294967295 (first + i)) refl
     go false q = some-injective id (first + i) (rw q at e)
 
 -- ---- one tracked call
-
--- the answer of a call as a code
-module _ (m : Moved) (c : ℕ) where
-  pub moved-wrote : (o : Op) → m.step ≡ Wrote o → record { code = 0; progress = record { numbers = m.numbers; complete = c } } ≡ moved_to m c
-  moved-wrote o e = rw e
-
-  pub moved-refused : (r : ℕ) → m.step ≡ Refused r → record { code = r; progress = record { numbers = m.numbers; complete = c } } ≡ moved_to m c
-  moved-refused r e = rw e
 
 -- raw, ops and p before the call, m its answer, raw' and ops' after it
 module _ (raw ops : List ℕ) (p : Progress) (m : Moved) (raw' ops' : List ℕ) (r : Performed) (is : r ≡ moved_to m p.complete) where
@@ -154,20 +141,7 @@ module _ (raw ops : List ℕ) (p : Progress) (raw₁ ops₁ : List ℕ) (r : ℕ
         (λ s' h'. rw (← append-nil (swap_of to)) ((second spill).performs e s' k h' (omega (arith, same-height spill e s k h f.0 s' h', f.1))));
   }
 
--- ---- the arms of `perform`
-
-pub arm : (x : Holding) (r : ℕ) (y : Holding) (choice is : Choice) → choice ≡ is → Performs x r y is → Performs x r y choice
-arm x r y choice is e p = rw e p
-
-pub arm-lent : (raw ops spill : List ℕ) (p : Progress) (r : ℕ) (raw' ops' : List ℕ) (q : Progress) (choice is : Choice) → choice ≡ is
-    → ((spill : List ℕ) → Performs (holding raw p ops spill) r (holding raw' q ops' spill) is) → Performs (holding raw p ops spill) r (holding raw' q ops' spill) choice
-arm-lent raw ops spill p r raw' ops' q choice is e f = rw e (f spill)
-
-pub arm-pass : (x : Holding) (choice : Choice) → choice ≡ C.Pass → Performs x 0 x choice
-arm-pass x choice e = record { performs = λ d s k h f. rw e (record { code = refl; held = h }) }
-
-pub arm-refuse : (x : Holding) (choice : Choice) (r : ℕ) → choice ≡ C.Refuse r → Performs x r x choice
-arm-refuse x choice r e = record { performs = λ d s k h f. rw e (record { code = refl; held = h }) }
+-- ---- the pop of the finish
 
 -- a pop that is done lowers the length
 pub pop-falls : (raw ops : List ℕ) (p : Progress) (m : Moved) (ops' : List ℕ) (r : Performed) → r ≡ moved_to m p.complete

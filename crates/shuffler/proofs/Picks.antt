@@ -1,20 +1,20 @@
 -- A turn is a choice performed and a count; a tick is the turn of what the rules picked.
-use Prim.Native.Nat.{ℕ, zero, suc, ◌+◌, ◌-◌, ◌<◌, ◌≤◌}
+use Prim.Native.Nat.{ℕ, ◌≤◌}
 use native.Mathlib.Omega.{arith}
 use mathlib.Core.Path.{◌≡◌, refl, sym, ap, ◌∙◌}
-use mathlib.Core.List.{List, [], ◌∷◌}
+use mathlib.Core.List.{List}
 use lib.ListN.{length, take}
-use Rattle.scope.specs.Words.{if_zero, Stack}
+use Rattle.scope.specs.Words.{Stack}
 use Rattle.scope.specs.Stack.{fifo}
-use Rattle.scope.specs.Rules.{Job, State, Plan, counted, shrink_plan, grow_plan}
-use Rattle.scope.specs.Shuffle.{Ended, ended, carry_out, recount}
+use Rattle.scope.specs.Rules.{Job, State, Plan, counted}
+use Rattle.scope.specs.Shuffle.{ended, carry_out, recount}
 use Rattle.scope.specs.Once.{Lent, job_lent}
 use Rattle.scope.proofs.Loops.{if-not, if-zero}
 use Rattle.rules.specs.declared.Choice.{Choice}
 use Rattle.rules.specs.Promises.{Chosen, Fit, plan_of, counted_in}
 use Rattle.tracked.specs.Promises.{tracked_in}
 use Rattle.shuffler.specs.declared.Progress.{Progress}
-use Rattle.shuffler.specs.Held.{Holding, Held, Ran}
+use Rattle.shuffler.specs.Held.{Holding, Held}
 use Rattle.shuffler.specs.Runs.{About, turned, Ticks}
 use Rattle.shuffler.specs.Performing.{holding, Performs}
 use Rattle.shuffler.specs.Picks.{recounted, Turns}

@@ -1,13 +1,12 @@
 -- The returns of the code's ticks and loops, each by the law that Runs or Picks has for it.
-use Prim.Native.Nat.{ℕ, zero, suc, ◌+◌, ◌-◌, ◌<◌, ◌≤◌}
+use Prim.Native.Nat.{ℕ, ◌+◌, ◌-◌, ◌<◌, ◌≤◌}
 use native.Mathlib.Omega.{arith}
-use mathlib.Core.Path.{◌≡◌, refl, sym, ap, ◌∙◌}
-use mathlib.Core.List.{List, [], ◌∷◌}
+use mathlib.Core.Path.{◌≡◌}
+use mathlib.Core.List.{List}
 use lib.ListN.{length, take}
 use Rattle.scope.specs.Stack.{fifo}
-use Rattle.scope.specs.Rules.{Job, State, Plan, shrink_plan, grow_plan}
+use Rattle.scope.specs.Rules.{shrink_plan, grow_plan}
 use Rattle.scope.specs.Shuffle.{shrinks, grows, run_from}
-use Rattle.scope.specs.Once.{Lent, job_lent}
 use Rattle.rules.specs.declared.Choice.{Choice}
 use Rattle.rules.specs.declared.Choice.TheVariants as C
 use Rattle.rules.specs.Promises.{Chosen, counted_in}
@@ -15,25 +14,12 @@ use Rattle.tracked.specs.Promises.{tracked_in}
 use Rattle.shuffler.specs.declared.Progress.{Progress}
 use Rattle.shuffler.specs.declared.Performed.{Performed}
 use Rattle.shuffler.specs.declared.Looped.{Looped}
-use Rattle.shuffler.specs.Held.{Holding, Held, Ran}
+use Rattle.shuffler.specs.Held.{Holding}
 use Rattle.shuffler.specs.Runs.{Ticks, Loops, Within, Downs, Lowers, Tells, rest}
 use Rattle.shuffler.specs.Performing.{holding, Performs}
 use Rattle.shuffler.specs.Picks.{recounted, Turns}
 use Rattle.shuffler.proofs.Runs as R
 use Rattle.shuffler.proofs.Picks.{recounts, ticks-of, tall-enough}
-
--- ---- what the rules are asked is what is held
-
-pub recount-is : (raw T current : List ℕ) (p : Progress) (c : ℕ) → current ≡ fifo raw p.numbers.len → c ≡ counted_in current T p.complete
-    → record { numbers = p.numbers; complete = c } ≡ recounted raw T p
-recount-is raw T current p c e g = rw (g, e)
-
-pub pick-shrink : (T C current : List ℕ) (c S : ℕ) (r : Choice) → current ≡ C → ((L : List ℕ) (D : ℕ) → Chosen 1 current T L c S D shrink_plan r)
-    → (L : List ℕ) (D : ℕ) → Chosen 1 C T L c S D shrink_plan r
-pick-shrink T C current c S r e f L D = rw e at (f L D)
-
-pub pick-grow : (T C L current spilled : List ℕ) (c S D : ℕ) (r : Choice) → current ≡ C → spilled ≡ L → Chosen 0 current T spilled c S D grow_plan r → Chosen 0 C T L c S D grow_plan r
-pick-grow T C L current spilled c S D r e g f = rw (e, g) at f
 
 -- ---- a tick
 
@@ -95,9 +81,6 @@ module _ (goal : ℕ) (raw ops₀ ops : List ℕ) (p₀ p : Progress) (w : (spil
     pub finish-again : m.code ≡ 0 → (spill : List ℕ) → Lowers goal (holding raw p₀ ops₀ spill) (holding raw m.progress ops' spill)
     unfolding tracked_in
     finish-again o spill = R.down-again goal (holding raw p₀ ops₀ spill) (holding raw p ops spill) (w spill) m.code (holding raw m.progress ops' spill) g (λ e s h t. (u spill).performs e s 0 h t) o
-
-pub finish-start : (goal : ℕ) (raw ops : List ℕ) (p : Progress) (spill : List ℕ) → Lowers goal (holding raw p ops spill) (holding raw p ops spill)
-finish-start goal raw ops p spill = R.down-start goal (holding raw p ops spill)
 
 -- ---- the run
 

@@ -6,16 +6,15 @@ use mathlib.Core.Bool.{Bool, true, false}
 use mathlib.Core.List.{List, [], ◌∷◌, ◌++◌}
 use borrow.Author.Tests.{le-ltb, lt-ltb}
 use lib.ListN.{length, replicate, length-drop}
-use lib.Dec.{ltb}
 use Rattle.scope.specs.declared.Op.{Op}
 use Rattle.scope.specs.declared.Op.TheVariants.{Pop}
 use Rattle.scope.specs.Words.{if_zero, Stack}
 use Rattle.scope.specs.Rules.{Job, State, Plan, counted, shrink_plan, grow_plan}
-use Rattle.scope.specs.Shuffle.{Ended, ended, no_record, carry_out, recount, loop, shrinks, grows, shrink, grow, perform, finish, result, run_from}
+use Rattle.scope.specs.Shuffle.{Ended, ended, no_record, carry_out, recount, shrinks, grows, shrink, grow, perform, finish, result, run_from}
 use Rattle.scope.specs.Once.{Lent, job_lent}
 use Rattle.scope.proofs.Loops.{if-not, if-zero, loop-done, loop-limit, loop-refused, loop-again, carry-ticks, perform-append}
 use Rattle.shuffler.specs.Held.{Holding, Held, Ran}
-use Rattle.shuffler.specs.Runs.{About, turned, Ticks, EndsAt, looped, Loops, Here, Within, down, Downs, Lower, Lowers, Told, Tells, rest}
+use Rattle.shuffler.specs.Runs.{About, turned, Ticks, EndsAt, looped, Loops, Here, Within, down, Downs, Lowers, Tells, rest}
 
 -- the height that the code keeps is the stack's
 pub height : (e : Lent) (x : Holding) (s : State) → Held e x s → x.tracked.stack.height ≡ length s.C
@@ -58,9 +57,6 @@ recount-held e x s c h is = record {
 
 abbrev pub Goes : (Job → State → Bool) → List ℕ → ℕ → ℕ → Holding → Bool → Type 0
 Goes goes T S D x b = (e : Lent) (s : State) → About T S D e → Held e x s → goes (job_lent e) s ≡ b
-
-pub loop-start : (goes : Job → State → Bool) (plan : Job → State → Plan) (T : List ℕ) (S D : ℕ) (x : Holding) → Within goes plan T S D x x 0
-loop-start goes plan T S D x = record { within = λ e s a h. record { state = s; held = h; same = refl } }
 
 module _ (goes : Job → State → Bool) (plan : Job → State → Plan) (T : List ℕ) (S D : ℕ) (x₀ x : Holding) (k : ℕ) (w : Within goes plan T S D x₀ x k) where
   pub ends-done : Goes goes T S D x false → Loops T S D x₀ 0 k x goes plan
@@ -139,9 +135,6 @@ module _ (T : List ℕ) (S D : ℕ) (x : Holding) where
   grows-yes l e s a h = lt-ltb s.c (length e.target) (omega (arith, ap length a.target, h.complete))
 
 -- ---- popping down
-
-pub down-start : (goal : ℕ) (x : Holding) → Lowers goal x x
-down-start goal x = record { lowers = λ e s h. record { state = s; held = h; same = refl } }
 
 -- one pop in front
 down-one : (goal : ℕ) (j : Job) (s : State) → goal < length s.C

@@ -1,6 +1,6 @@
 -- How the code keeps the state of a run, and what a piece of work makes of it.
 use Rattle.std.specs.Prelude.{ℕ, ◌+◌, ◌-◌, ◌*◌, ◌≤◌, ◌≡◌, List, length}
-use Rattle.scope.specs.Words.{Stack, stack_of}
+use Rattle.scope.specs.Words.{stack_of}
 use Rattle.scope.specs.Machine.{record_words, capacity, words_of, over, over_from}
 use Rattle.scope.specs.Rules.{Job, State}
 use Rattle.scope.specs.Shuffle.{Ended}

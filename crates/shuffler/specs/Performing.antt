@@ -1,6 +1,6 @@
 -- How the code's values are what is held, and what performing a choice does.
-use Rattle.std.specs.Prelude.{ℕ, ◌+◌, ◌-◌, ◌≡◌, List, length}
-use Rattle.scope.specs.Rules.{Job, State}
+use Rattle.std.specs.Prelude.{ℕ, List, length}
+use Rattle.scope.specs.Rules.{State}
 use Rattle.scope.specs.Shuffle.{carry_out}
 use Rattle.scope.specs.Once.{Lent, job_lent}
 use Rattle.rules.specs.declared.Choice.{Choice}

@@ -1,7 +1,7 @@
 -- Counting in code, and what a turn does: a choice performed, and counting after it.
-use Rattle.std.specs.Prelude.{ℕ, ◌+◌, ◌-◌, ◌≡◌, List, length}
+use Rattle.std.specs.Prelude.{ℕ, ◌≡◌, List, length}
 use Rattle.scope.specs.Stack.{fifo}
-use Rattle.scope.specs.Rules.{Job, State}
+use Rattle.scope.specs.Rules.{State}
 use Rattle.scope.specs.Once.{Lent, job_lent}
 use Rattle.rules.specs.declared.Choice.{Choice}
 use Rattle.rules.specs.Promises.{plan_of, Fit, counted_in}

@@ -7,7 +7,6 @@ use Rattle.scope.specs.Once.{Lent, job_lent, start_lent, Seen}
 use Rattle.stack.specs.Promises.{stack_in}
 use Rattle.operations.specs.declared.ScheduleConfig.{ScheduleConfig}
 use Rattle.tracked_state.specs.declared.TrackedState.{TrackedState}
-use Rattle.tracked_state.specs.Promises.{tracked_of}
 use Rattle.shuffler.specs.declared.Answer.{Answer}
 use Rattle.shuffler.specs.declared.Ended.{Ended}
 

@@ -1,9 +1,8 @@
 -- What a tick, a loop, the finish and a run leave held. Each says: whatever state was held before, the one that the definition gives is held after.
-use Rattle.std.specs.Prelude.{ℕ, ◌+◌, ◌-◌, ◌≤◌, ◌≡◌, Bool, List, length, replicate}
+use Rattle.std.specs.Prelude.{ℕ, ◌-◌, ◌≡◌, Bool, List, length, replicate}
 use Rattle.scope.specs.Words.{if_zero}
 use Rattle.scope.specs.Rules.{Job, State, Plan}
 use Rattle.scope.specs.Shuffle.{Ended, ended, carry_out, recount, loop, perform, grow, finish, Result, result}
-use Rattle.scope.specs.declared.Op.{Op}
 use Rattle.scope.specs.declared.Op.TheVariants.{Pop}
 use Rattle.scope.specs.Once.{Lent, job_lent}
 use Rattle.shuffler.specs.Held.{Holding, Held, Ran}
