@@ -1,35 +1,32 @@
 -- The driver's three calls, put together: what was read is the job, what the shuffle leaves is the result's, and its words are operations.
-use Rattle.std.specs.Prelude.{if◌then◌else◌}
-use Prim.Native.Nat.{ℕ, zero, suc, ◌+◌, ◌-◌, ◌*◌, ◌/◌, ◌≤◌, ◌<◌}
+use Prim.Native.Nat.{ℕ, zero, suc, ◌+◌, ◌*◌, ◌≤◌}
 use native.Mathlib.Omega.{arith}
 use mathlib.Core.Path.{◌≡◌, refl, sym, ap, ◌∙◌}
 use mathlib.Core.Bool.{Bool, true, false}
 use mathlib.Core.Option.{Option, none, some}
-use mathlib.Core.List.{List, [], ◌∷◌, ◌++◌}
-use lib.ListN.{length, take, drop, replicate, length-append, length-drop, length-take}
+use mathlib.Core.List.{List, []}
+use lib.ListN.{length, take, drop, length-append, length-drop, length-take}
 use lib.Seq.{take_at, take-take, take-append_seam}
-use lib.Dec.{eqb, leb, ltb}
+use lib.Dec.{eqb, ltb}
 use borrow.Author.Tests.{ltb-false, le-leb}
 use Rattle.scope.specs.declared.Op.{Op}
-use Rattle.scope.specs.declared.Op.TheVariants.{Swap, Dup, Pop, Store, Load}
-use Rattle.scope.specs.Words.{if_zero, Stack, stack_of}
+use Rattle.scope.specs.Words.{Stack, stack_of}
 use Rattle.scope.specs.Machine.{over, words_of}
 use Rattle.scope.specs.Rules.{Job}
-use Rattle.scope.specs.Shuffle.{Start, start_of, code_of, Result, result, started, run_from, shuffle}
+use Rattle.scope.specs.Shuffle.{Start, start_of, code_of, Result, shuffle}
 use Rattle.scope.specs.Legal.{Legal, swap, dup, pop, store, load, Runs, stop, next}
 use Rattle.scope.specs.Once.{Lent, Seen, seen_of, job_lent, start_lent, shuffle_due}
-use Rattle.scope.specs.JobFile.{JobFile, word_at, is_job, read_job, parsed, job_of, result_of, answer_lines, driver_prints}
+use Rattle.scope.specs.JobFile.{JobFile, word_at, is_job, read_job, parsed, job_of, result_of, driver_prints}
 use Rattle.scope.proofs.Branches.{tested}
-use Rattle.scope.proofs.Exact.{Stated, even-words}
+use Rattle.scope.proofs.Exact.{even-words}
 use Rattle.scope.proofs.Success.{shuffle-runs}
 use Rattle.operations.specs.declared.ScheduleConfig.{ScheduleConfig}
 use Rattle.job.specs.declared.JobRead.{JobRead}
 use Rattle.job.specs.Promises.{Read, read_into, read_of}
-use Rattle.job.proofs.Reading.{IsJob, is-a-job, length-words}
+use Rattle.job.proofs.Reading.{is-a-job, length-words}
 use Rattle.shuffler.specs.declared.Answer as S
 use Rattle.shuffler.specs.Promises.{seen_in, lent_plain}
-use Rattle.answer.specs.declared.Answer.{Answer}
-use Rattle.answer.specs.Promises.{shallow, AllShallow, no-ops, one-op, Writing, writes}
+use Rattle.answer.specs.Promises.{shallow, AllShallow, no-ops, one-op, writes}
 use Rattle.answer.proofs.Answered.{answers}
 use Rattle.driving.specs.Promises.{prints}
 
@@ -115,22 +112,10 @@ pub length_over : (new lent : List ℕ) → length new ≤ length lent → lengt
 length_over new lent h = omega (arith, length-append new (drop (length new) lent), length-drop (length new) lent)
 
 module _ {f : JobFile} {r : JobRead} {x y z x₀ y₀ z₀ : List ℕ} (g : Gave f r x y z x₀ y₀ z₀) where
-  starts-in : r.starts ≤ length x
-  starts-in = rw (g.starts, g.start) (longer f.start x₀)
-
-  targets-in : r.targets ≤ length z
-  targets-in = rw (g.targets, g.target) (longer f.target z₀)
-
   slots-in : Bounded f → length y₀ ≡ 4096 → 2048 ≤ length y
   slots-in b l = rw g.spilled (omega (arith, length_over f.spilled y₀ (omega (arith, b.spills))))
 
 module _ (bs : List ℕ) (r : JobRead) (x y z x₀ y₀ z₀ : List ℕ) (h : read_of r x y z ≡ read_into (parsed bs) x₀ y₀ z₀) (c : r.code ≡ 0) where
-  pub starts_fit : r.starts ≤ length x
-  starts_fit = starts-in (read-it bs r x y z x₀ y₀ z₀ h c).3
-
-  pub targets-fit : r.targets ≤ length z
-  targets-fit = targets-in (read-it bs r x y z x₀ y₀ z₀ h c).3
-
   pub slots-fit : length y₀ ≡ 4096 → 2048 ≤ length y
   slots-fit = let q = read-it bs r x y z x₀ y₀ z₀ h c in slots-in q.3 q.2
 
