@@ -1,0 +1,9 @@
+-- One text after the other.
+use Rattle.lines.proofs.Laying.{some-laid, and_then}
+use Rattle.tracing.proofs.ends.put_verdict.Goals as goal
+
+pub returns : goal.returns
+returns c =
+    let b = and_then (some-laid c.put_label-a.ensures) (some-laid c.put_label-b.ensures) in
+    let d = and_then (and_then b (some-laid c.put_label-c.ensures)) (some-laid c.put_label-d.ensures) in
+    and_then (and_then d (some-laid c.put-e.ensures)) c.put_refusal.ensures
