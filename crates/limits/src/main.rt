@@ -1,15 +1,19 @@
 // Runs each call of the stacks on both sides of each of its limits, and writes a line for each trial: what was asked, and the whole answer.
 #![tactic(auto)]
 
+use std::io::{self, BufWriter, Write};
+
 pub mod making;
 pub mod settings;
 pub mod show;
 pub mod stacks;
 pub mod tracking;
 
-fn main() {
-    stacks::run();
-    making::run();
-    tracking::run();
-    settings::run();
+fn main(rt: HostRuntime) -> io::Result<()> {
+    let mut out = BufWriter::new(rt.alloc(), io::writer(&rt))?;
+    stacks::run(&mut out)?;
+    making::run(&mut out)?;
+    tracking::run(&mut out)?;
+    settings::run(&mut out)?;
+    out.flush()
 }
