@@ -1,24 +1,21 @@
 -- The checker looks at what a shuffle left: the slots that were filled before it are still there, and the room for operations is no matter to it.
-use Rattle.std.specs.Prelude.{if◌then◌else◌}
-use Prim.Native.Nat.{ℕ, zero, suc, ◌+◌, ◌-◌, ◌*◌, ◌/◌, ◌≤◌, ◌<◌}
+use Prim.Native.Nat.{ℕ, zero, suc, ◌*◌, ◌/◌, ◌≤◌, ◌<◌}
 use native.Mathlib.Omega.{arith}
 use mathlib.Core.Path.{◌≡◌, refl, sym, ap, ◌∙◌, subst}
-use mathlib.Core.Bool.{Bool, true, false}
 use mathlib.Core.Option.{Option, none, some}
 use mathlib.Core.List.{List, [], ◌∷◌, ◌++◌, append-nil, append_assoc}
-use lib.ListN.{length, take, drop, length-append, length-drop, length-take}
+use lib.ListN.{length, take, drop, length-append, length-drop}
 use lib.Seq.{take_at, drop-append_seam, take_all, length-take-le}
-use lib.Dec.{eqb, leb, ltb}
 use Rattle.scope.specs.declared.Op.{Op}
 use Rattle.scope.specs.declared.Op.TheVariants.{Swap, Dup, Pop, Store, Load}
-use Rattle.scope.specs.Words.{if_zero, same_list}
-use Rattle.scope.specs.Machine.{record_words, stack_after, spilled_after, more_gas, words_of, over, over_from, gas_sum}
+use Rattle.scope.specs.Words.{if_zero}
+use Rattle.scope.specs.Machine.{stack_after, spilled_after, more_gas, words_of, over, over_from}
 use Rattle.scope.specs.Rules.{Job}
 use Rattle.scope.specs.Shuffle.{Start, code_of, shuffle}
-use Rattle.scope.specs.Replay.{Verdict, verdict, decoded, op_fault, fault, stack_then, spilled_then, gas_then, replay_from, replay}
+use Rattle.scope.specs.Replay.{verdict, decoded, op_fault, fault, stack_then, spilled_then, gas_then, replay_from, replay}
 use Rattle.scope.specs.Legal.{Legal, swap, dup, pop, store, load, Runs, stop, next}
 use Rattle.scope.specs.Cases.{within}
-use Rattle.scope.specs.Once.{Lent, job_lent, start_lent, Seen, shuffle_due, SeenVerdict, seen_verdict, check_due}
+use Rattle.scope.specs.Once.{Lent, job_lent, start_lent, Seen, shuffle_due, SeenVerdict, check_due}
 use Rattle.scope.proofs.JobCodes.{passes}
 use Rattle.scope.proofs.Exact.{Stated, even-words, job-exact, same_self}
 use Rattle.scope.proofs.Success.{shuffle-runs, shuffle-verdict, shuffle-ends}
@@ -27,7 +24,7 @@ use Rattle.shuffler.specs.declared.Answer.{Answer}
 use Rattle.shuffler.specs.Promises.{seen_in, lent_plain}
 use Rattle.replay.specs.declared.Verdict.{Verdict as Verdict'}
 use Rattle.replay.specs.Promises.{seen, lent_to}
-use Rattle.theorems.specs.Outcomes.{Shuffled, shows, Shuffles, lent_after, confirm_due}
+use Rattle.theorems.specs.Outcomes.{Shuffled, Shuffles, lent_after, confirm_due}
 
 -- ---- the room for operations is no matter to the checker
 

@@ -2,8 +2,7 @@
 --
 -- Most calls promise one equation, `seen r ≡ due`; then `determined` says it, and where `seen` is a view of an enum the view loses nothing. The
 -- others promise a relation of their crate's Promises; for each of these it is shown here. docs/PROMISES.md has the table, call by call.
-use Prim.Native.Nat.{ℕ, zero, suc}
-use native.Mathlib.Omega.{arith}
+use Prim.Native.Nat.{ℕ}
 use mathlib.Core.Path.{◌≡◌, refl, sym, ap, ◌∙◌}
 use mathlib.Core.Option.{Option, none, some}
 use mathlib.Core.List.{List, []}
@@ -17,18 +16,17 @@ use Rattle.scope.specs.declared.Depth.{Depth}
 use Rattle.scope.specs.declared.Depth.TheVariants as D
 use Rattle.scope.specs.declared.Found.{Found}
 use Rattle.scope.specs.declared.Found.TheVariants as F
-use Rattle.scope.specs.Words.{if_zero, Stack, stack_of}
+use Rattle.scope.specs.Words.{if_zero}
 use Rattle.scope.specs.Rules.{Job, State, Plan, Asked, yes, no, outside}
-use Rattle.scope.specs.Stack.{word_of, depth_of, found_of, kept, Left, Popped}
-use Rattle.scope.specs.Tracked.{step_code, step_op, Tracked, values, Stepped, Spilled, Made, Cloned}
-use Rattle.scope.specs.Once.{Promise, Once}
-use Rattle.scope.proofs.Once.{determined, determined-by}
+use Rattle.scope.specs.Stack.{word_of, depth_of, found_of, Left, Popped}
+use Rattle.scope.specs.Tracked.{step_code, step_op, values, Stepped, Spilled, Made, Cloned}
+use Rattle.scope.proofs.Once.{determined-by}
 use Rattle.stack.specs.declared.EvmStack.{EvmStack}
 use Rattle.stack.specs.Promises.{stack_in, blank, laid, Fresh, Leaves, Takes}
 use Rattle.tracked.specs.declared.Numbers.{Numbers}
-use Rattle.tracked.specs.Promises.{stepped_in, Steps, Spills}
+use Rattle.tracked.specs.Promises.{Steps, Spills}
 use Rattle.tracked_state.specs.declared.TrackedState.{TrackedState}
-use Rattle.tracked_state.specs.Promises.{tracked_of, array_of, Makes, Clones}
+use Rattle.tracked_state.specs.Promises.{Makes, Clones}
 use Rattle.printing.specs.declared.Printed.{Printed}
 use Rattle.printing.specs.declared.Printed.TheVariants as P
 use Rattle.printing.specs.Promises.{wrote_of}

@@ -1,27 +1,26 @@
 -- A promise is an equation of what is seen; field by field it carries what is proved of the definitions over to the outcome.
-use Prim.Native.Nat.{ℕ, zero, suc, ◌+◌, ◌-◌, ◌*◌, ◌≤◌, ◌<◌}
+use Prim.Native.Nat.{ℕ, suc, ◌+◌, ◌*◌, ◌≤◌}
 use native.Mathlib.Omega.{arith}
-use mathlib.Core.Path.{◌≡◌, refl, sym, ap, ◌∙◌, subst}
+use mathlib.Core.Path.{◌≡◌, refl, sym, ap, ◌∙◌}
 use mathlib.Core.Logic.{◌≢◌}
-use mathlib.Core.List.{List, [], ◌∷◌, ◌++◌, append_assoc}
-use lib.ListN.{length, take, drop, take-append-drop}
+use mathlib.Core.List.{List, [], ◌∷◌, ◌++◌}
+use lib.ListN.{length, take, drop}
 use lib.Seq.{take_at, drop-append_seam}
 use Rattle.scope.specs.declared.Op.{Op}
-use Rattle.scope.specs.declared.Op.TheVariants.{Swap, Dup, Pop, Store, Load}
-use Rattle.scope.specs.Words.{if_zero, Stack, stack_of}
-use Rattle.scope.specs.Machine.{record_words, kind, argument, words_of, over, over_from}
+use Rattle.scope.specs.Words.{Stack, stack_of}
+use Rattle.scope.specs.Machine.{kind, argument, words_of, over, over_from}
 use Rattle.scope.specs.Rules.{Job}
-use Rattle.scope.specs.Shuffle.{Start, code_of, Result, shuffle}
+use Rattle.scope.specs.Shuffle.{code_of, Result, shuffle}
 use Rattle.scope.specs.Replay.{Verdict, replay}
 use Rattle.scope.specs.Legal.{Legal, swap, dup, pop, store, load, Runs, stop, next, Fault, unknown, swap-none, swap-far, swap-below, dup-far, dup-below, dup-high, load-high, pop-empty, store-empty, store_other, store-full, load-under, load-over}
-use Rattle.scope.specs.Evm.{Instr, POP, DUP, SWAP, Does, Halts, underflow, overflow, Codes, swap as swap-code, dup as dup-code, pop as pop-code}
+use Rattle.scope.specs.Evm.{Instr, POP, DUP, SWAP, Halts, underflow, overflow, Codes, swap as swap-code, dup as dup-code, pop as pop-code}
 use Rattle.scope.specs.Once.{Lent, job_lent, start_lent, Seen, shuffle_due, SeenVerdict, check_due}
 use Rattle.scope.proofs.Exact.{even-words, words-once}
 use Rattle.scope.proofs.OnEvm.{step-does}
 use Rattle.stack.specs.Promises.{stack_in}
 use Rattle.replay.specs.declared.Verdict.{Verdict as Verdict'}
 use Rattle.replay.specs.Promises.{answered}
-use Rattle.theorems.specs.Outcomes.{Shuffled, shows, Shuffles, Checked, finds, Checks, Wrote, OnEvm, instruction, stores, loads}
+use Rattle.theorems.specs.Outcomes.{Shuffled, Shuffles, Checked, Checks, Wrote, OnEvm, instruction, stores, loads}
 
 -- ---- a shuffle's outcome is the result of the definition
 

@@ -1,18 +1,17 @@
 -- Wrong shufflers and wrong checkers: each would break its promise on one of the runs worked by hand, whose outcome is computed.
-use Prim.Native.Nat.{ℕ, zero, suc, ◌*◌, ◌≤◌, ◌<◌}
+use Prim.Native.Nat.{ℕ, ◌≤◌}
 use native.Mathlib.Omega.{arith}
 use mathlib.Core.Path.{◌≡◌, refl, sym, ap, ◌∙◌}
 use mathlib.Core.Logic.{◌≢◌}
-use mathlib.Core.List.{List, [], ◌∷◌, ◌++◌}
-use lib.ListN.{length, get_or, take, drop, replicate}
-use Rattle.scope.specs.declared.Op.{Op}
-use Rattle.scope.specs.Words.{stack_of, ◌∈◌, count, same_list, seek, lowest, highest, holds, first_of, latest_of}
+use mathlib.Core.List.{List, [], ◌∷◌}
+use lib.ListN.{get_or, take}
+use Rattle.scope.specs.Words.{◌∈◌, count, same_list, seek, lowest, highest, holds, first_of, latest_of}
 use Rattle.scope.specs.Machine.{words_of}
 use Rattle.scope.specs.Rules.{differs, wants_top, extra, extra_at, gives_for, giver, can_be_set_right, needs_copy, out_of_reach, counting_stops, safe_to_bury, load, store, counted, rule_a, rule_b, rule_c, rule_d, rule_e, rule_f, shrink_plan, rule_x, may_push, store_unless_push, rule_u, rule_v, rule_w, grow_plan}
 use Rattle.scope.specs.Shuffle.{perform, loop, shrink, grow, finish, run_from, shuffle}
 use Rattle.scope.specs.Replay.{replay_from, replay}
 use Rattle.scope.specs.Once.{Lent, Seen, shuffle_due, SeenVerdict, check_due}
-use Rattle.theorems.specs.Outcomes.{Shuffled, shows, Shuffles, Checked, finds, Checks, case_b, case_e, case_f, case_k, none_from}
+use Rattle.theorems.specs.Outcomes.{Shuffled, Shuffles, Checked, Checks, case_b, case_e, case_f, case_k, none_from}
 
 -- ---- what is due in the cases, as far as it is needed
 

@@ -3,23 +3,23 @@
 -- `Shuffles e o`: lent e, a shuffle came out as o; that is the promise of `shuffle`, `run`, the entry and `njallavet_shuffle`.
 -- `Checks e v`: lent e, the checker came out as v; that is the promise of `check` and `njallavet_check`.
 -- `Stated`: the start's height is the number of its values, or above 1,024; so it is in every call (the last section).
-use Prim.Native.Nat.{ℕ, zero, suc, ◌*◌, ◌%◌, ◌≤◌, ◌<◌}
+use Prim.Native.Nat.{ℕ, suc, ◌*◌, ◌%◌, ◌≤◌, ◌<◌}
 use native.Mathlib.Omega.{arith}
 use mathlib.Core.Path.{◌≡◌, refl, sym, ap, ◌∙◌}
 use mathlib.Core.Logic.{◌≢◌, ◌↔◌}
 use mathlib.Core.List.{List, [], ◌∷◌, ◌++◌}
-use lib.ListN.{length, take, drop, take-append-drop, length-drop}
+use lib.ListN.{length, take, take-append-drop, length-drop}
 use Rattle.scope.specs.declared.Op.{Op}
-use Rattle.scope.specs.Words.{Stack, stack_of, ◌at◌}
-use Rattle.scope.specs.Machine.{record_words, kind, argument, words_of, over, gas_sum}
-use Rattle.scope.specs.Rules.{Job, State}
-use Rattle.scope.specs.Shuffle.{Start, code_of, started, shuffle}
+use Rattle.scope.specs.Words.{stack_of, ◌at◌}
+use Rattle.scope.specs.Machine.{kind, argument, words_of, over}
+use Rattle.scope.specs.Rules.{State}
+use Rattle.scope.specs.Shuffle.{code_of, started, shuffle}
 use Rattle.scope.specs.Replay.{Verdict, verdict, replay}
 use Rattle.scope.specs.Legal.{Legal, Runs, Lawful, Judged, accepted, unlike, faulty}
 use Rattle.scope.specs.Evm.{Instr, Halts, Codes}
 use Rattle.scope.specs.Stack.{fifo}
 use Rattle.scope.specs.Moments.{moments, Follows}
-use Rattle.scope.specs.Once.{Once, Lent, job_lent, start_lent, Seen, shuffle_due, SeenVerdict, check_due}
+use Rattle.scope.specs.Once.{Once, Lent, job_lent, start_lent, shuffle_due, SeenVerdict, check_due}
 use Rattle.scope.proofs.Exact.{Stated, low-start, accepts-exact, verdict-exact, odd-exact, job-exact}
 use Rattle.scope.proofs.Success.{shuffle-runs, shuffle-ends}
 use Rattle.scope.proofs.Completed.{Among, last_of, completed-stays, moments-follow, moments-end, moments-each}
