@@ -71,7 +71,7 @@ find_archive() {
     ARCHIVE=''
     if [ -z "${NJALLAVET_ARCHIVE:-}" ]; then
         if [ -d ../crates/exports ] && command -v rt >/dev/null 2>&1; then
-            ../bindings/archive >&2 || {
+            (cd ../crates/exports && rt lib) >&2 || {
                 echo "the port's archive cannot be built" >&2
                 exit 1
             }
@@ -83,7 +83,7 @@ find_archive() {
         export NJALLAVET_ARCHIVE
         ARCHIVE=archive
     elif [ -d ../crates/exports ]; then
-        echo "crates/exports is there, but no archive of it (bindings/archive makes it)" >&2
+        echo "crates/exports is there, but no archive of it (rt lib makes it there)" >&2
         exit 1
     fi
 }
