@@ -18,17 +18,7 @@ fn stands(lines: &[u8], at: usize, text: &[u8]) -> bool {
     if lines.len() < at {
         return false;
     }
-    if lines.len() - at < text.len() {
-        return false;
-    }
-    let mut i = 0;
-    while i < text.len() {
-        if lines[at + i] != text[i] {
-            return false;
-        }
-        i += 1;
-    }
-    true
+    lines[at..].starts_with(text)
 }
 
 // The place after an operation's line, where that line stands in the lines at a place; else one past their end.
@@ -58,12 +48,10 @@ fn after_words(lines: &[u8], at: usize, kind: u32, argument: u32) -> usize {
 fn same_operations(bytes: &[u8], at: usize, count: u32, lines: &[u8], from: usize) -> bool {
     let mut next = at;
     let mut line = from;
-    let mut i: u32 = 0;
-    while i < count {
+    for _ in 0..count {
         let op = packed::operation(bytes, next);
         line = after_words(lines, line, op.kind, op.argument);
         next = op.next;
-        i += 1;
     }
     line == lines.len()
 }

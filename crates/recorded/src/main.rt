@@ -2,7 +2,10 @@
 #![tactic(auto)]
 
 use compare::Outcome;
-use libc::STDOUT_FILENO;
+use input::{Inputs, read_full};
+use std::io::{self, BufWriter, Read, Write};
+use std::process::ExitCode;
+use std::rt::Files;
 
 mod compare;
 mod packed;
@@ -14,151 +17,124 @@ struct Tally {
     differ: u32,
 }
 
-fn text(t: &[u8]) {
-    io::write_all(STDOUT_FILENO, t);
-}
-
-fn number(n: u32) {
-    io::print_decimal(STDOUT_FILENO, n as u64);
-}
-
-// One more in a count, which stays at its largest value.
-fn more(n: u32) -> u32 {
-    if n < 4294967295 { n + 1 } else { n }
-}
-
 // The codes that came, each with how often.
-fn show_codes(codes: &[u32]) {
-    let mut code = 0;
-    while code < codes.len() {
-        if 0 < codes[code] {
-            text(b" ");
-            io::print_decimal(STDOUT_FILENO, code as u64);
-            text(b":");
-            number(codes[code]);
+fn show_codes(out: &mut impl Write, codes: &[u32]) -> io::Result<()> {
+    for (code, count) in codes.iter().enumerate() {
+        if 0 < *count {
+            write!(out, " {code}:{count}")?;
         }
-        code += 1;
     }
+    Ok(())
 }
 
 // One more of a code.
 fn count_code(codes: &mut [u32], code: u32) {
     let i = code as usize;
     if i < codes.len() {
-        codes[i] = more(codes[i]);
+        codes[i] = codes[i].saturating_add(1);
     }
 }
 
 // The next four bytes of a file as a number; what the file does not have is 0.
-fn next_word(fd: i32) -> u32 {
+fn next_word(file: &mut impl Read) -> io::Result<u32> {
     let mut four = [0u8; 4];
-    io::read_full(fd, &mut four);
-    packed::word(&four, 0, 0)
+    read_full(file, &mut four)?;
+    Ok(u32::from_le_bytes(four))
 }
 
 // The next record of a file, put to the driver's work. One that is longer than its room differs.
-fn next_record(fd: i32, bytes: &mut [u8], job: &mut [u8], lines: &mut [u8]) -> Outcome {
-    let len = next_word(fd) as usize;
+fn next_record(
+    file: &mut impl Read,
+    bytes: &mut [u8],
+    job: &mut [u8],
+    lines: &mut [u8],
+) -> io::Result<Outcome> {
+    let len = next_word(file)? as usize;
     if bytes.len() < len {
-        return Outcome {
+        return Ok(Outcome {
             code: 0,
             agrees: false,
-        };
+        });
     }
-    let n = io::read_full(fd, &mut bytes[..len]);
-    if len < n {
-        return Outcome {
-            code: 0,
-            agrees: false,
-        };
-    }
-    compare::put_to(&bytes[..n], job, lines)
+    let n = read_full(file, &mut bytes[..len])?;
+    Ok(compare::put_to(&bytes[..n], job, lines))
 }
 
 // How many differ with this record among them. The first twenty of a class are named.
-fn judged(name: &[u8], i: u32, differ: u32, agrees: bool) -> u32 {
+fn judged(out: &mut impl Write, name: &str, i: u32, differ: u32, agrees: bool) -> io::Result<u32> {
     if agrees {
-        return differ;
+        return Ok(differ);
     }
     if differ < 20 {
-        text(b"differs: ");
-        text(name);
-        text(b" job ");
-        number(i);
-        text(b"\n");
+        writeln!(out, "differs: {name} job {i}")?;
     }
-    more(differ)
+    Ok(differ.saturating_add(1))
 }
 
 // So many records of a file; how many differ.
-fn records(fd: i32, name: &[u8], count: u32, codes: &mut [u32]) -> u32 {
+fn records(
+    out: &mut impl Write,
+    file: &mut impl Read,
+    name: &str,
+    count: u32,
+    codes: &mut [u32],
+) -> io::Result<u32> {
     let mut bytes = [0u8; 65536];
     let mut job = [0u8; 16420];
     let mut lines = [0u8; 221344];
     let mut differ = 0;
-    let mut i = 0;
-    while i < count {
-        let o = next_record(fd, &mut bytes, &mut job, &mut lines);
-        i += 1;
+    for i in 0..count {
+        let o = next_record(file, &mut bytes, &mut job, &mut lines)?;
         count_code(codes, o.code);
-        differ = judged(name, i, differ, o.agrees);
+        differ = judged(out, name, i + 1, differ, o.agrees)?;
     }
-    differ
-}
-
-// The sum of two counts, which stays at its largest value.
-fn sum(a: u32, b: u32) -> u32 {
-    if 4294967295 - a < b {
-        4294967295
-    } else {
-        a + b
-    }
+    Ok(differ)
 }
 
 // One class: a line with its jobs, the codes recorded and how many jobs differ. A file that is not there differs.
-fn class(t: Tally, name: &[u8]) -> Tally {
-    let fd = os::open_read(name);
-    if fd < 0 {
-        os::fail(name);
-        return Tally {
+fn class<R: Files + Eprint + AllocGlobal>(
+    out: &mut impl Write,
+    inputs: &mut Inputs<'_, R>,
+    t: Tally,
+    name: &str,
+) -> io::Result<Tally> {
+    let Some(mut file) = inputs.open(name)? else {
+        return Ok(Tally {
             jobs: t.jobs,
-            differ: more(t.differ),
-        };
-    }
+            differ: t.differ.saturating_add(1),
+        });
+    };
     let mut codes = [0u32; 14];
-    let jobs = next_word(fd);
-    let differ = records(fd, name, jobs, &mut codes);
-    libc::close(fd);
-    text(name);
-    text(b" ");
-    number(jobs);
-    text(b" jobs,");
-    show_codes(&codes);
-    text(b", ");
-    number(differ);
-    text(b" differ\n");
-    Tally {
-        jobs: sum(t.jobs, jobs),
-        differ: sum(t.differ, differ),
-    }
+    let jobs = next_word(&mut file)?;
+    let differ = records(out, &mut file, name, jobs, &mut codes)?;
+    write!(out, "{name} {jobs} jobs,")?;
+    show_codes(out, &codes)?;
+    writeln!(out, ", {differ} differ")?;
+    Ok(Tally {
+        jobs: t.jobs.saturating_add(jobs),
+        differ: t.differ.saturating_add(differ),
+    })
 }
 
-fn main() {
+fn main(rt: HostRuntime) -> io::Result<ExitCode> {
+    let mut out = BufWriter::new(rt.alloc(), io::writer(&rt))?;
+    let mut inputs = Inputs::new(&rt);
     let none = Tally { jobs: 0, differ: 0 };
-    let a = class(none, b"cases");
-    let b = class(a, b"limits");
-    let c = class(b, b"all-small");
-    let d = class(c, b"random-small");
-    let e = class(d, b"medium");
-    let f = class(e, b"low-swap-tall");
-    let g = class(f, b"near-1024");
-    let h = class(g, b"to-255");
-    let i = class(h, b"little-room");
-    let j = class(i, b"top-of-range");
-    let k = class(j, b"endless");
-    let all = class(k, b"driver-limits");
-    number(all.jobs);
-    text(b" jobs, ");
-    number(all.differ);
-    text(b" differ\n");
+    let a = class(&mut out, &mut inputs, none, "cases")?;
+    let b = class(&mut out, &mut inputs, a, "limits")?;
+    let c = class(&mut out, &mut inputs, b, "all-small")?;
+    let d = class(&mut out, &mut inputs, c, "random-small")?;
+    let e = class(&mut out, &mut inputs, d, "medium")?;
+    let f = class(&mut out, &mut inputs, e, "low-swap-tall")?;
+    let g = class(&mut out, &mut inputs, f, "near-1024")?;
+    let h = class(&mut out, &mut inputs, g, "to-255")?;
+    let i = class(&mut out, &mut inputs, h, "little-room")?;
+    let j = class(&mut out, &mut inputs, i, "top-of-range")?;
+    let k = class(&mut out, &mut inputs, j, "endless")?;
+    let all = class(&mut out, &mut inputs, k, "driver-limits")?;
+    let jobs = all.jobs;
+    let differ = all.differ;
+    writeln!(out, "{jobs} jobs, {differ} differ")?;
+    out.flush()?;
+    Ok(inputs.status())
 }

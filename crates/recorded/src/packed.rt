@@ -119,12 +119,10 @@ fn put_word(out: &mut [u8], at: usize, value: u32) {
 // So many numbers from a place on, each as a word of four bytes; the place after them.
 pub(crate) fn words(bytes: &[u8], at: usize, count: u32, out: &mut [u8]) -> usize {
     let mut next = at;
-    let mut i: u32 = 0;
-    while i < count {
+    for i in 0..count {
         let n = number(bytes, next);
         put_word(out, 4 * i as usize, n.value);
         next = n.next;
-        i += 1;
     }
     next
 }
