@@ -3,20 +3,23 @@
 
 use answer::Written;
 use driving::answer_job;
-use libc::{STDIN_FILENO, STDOUT_FILENO};
+use input::read_full;
+use std::io::{self, Write};
 
 // One byte more than a job may have is read, so that a longer one shows.
-fn main() {
+fn main(rt: HostRuntime) -> io::Result<()> {
     let mut bytes = [0u8; 16421];
     let mut lines = [0u8; 221344];
-    let n = io::read_full(STDIN_FILENO, &mut bytes);
+    let n = read_full(&mut rt.reader(), &mut bytes)?;
+    let mut out = io::writer(&rt);
     match answer_job(&bytes[..n], &mut lines) {
         Written::Wrote(len) => {
             if len <= 221344 {
-                io::write_all(STDOUT_FILENO, &lines[..len]);
+                out.write_all(&lines[..len])?;
             }
         }
         Written::NoRoom => {}
         Written::NoOperations => {}
     }
+    out.flush()
 }
