@@ -1,47 +1,54 @@
 // Reads one job from standard input and writes its trace; with an argument, the trace of the list in that file. The work is `tracing`'s.
 #![tactic(auto)]
 
-use libc::{STDIN_FILENO, STDOUT_FILENO};
+use input::{Inputs, read_full};
+use std::env;
+use std::io::{self, Write};
+use std::process::ExitCode;
+use std::rt::Files;
 use tracing::{room, trace_job, trace_list};
 
 // The lines that were made.
-fn write(lines: &[u8], len: usize) {
+fn write(out: &mut impl Write, lines: &[u8], len: usize) -> io::Result<()> {
     if len <= lines.len() {
-        io::write_all(STDOUT_FILENO, &lines[..len]);
+        out.write_all(&lines[..len])?;
     }
+    out.flush()
 }
 
 // The list in a file, on a job. One byte more than a list may have is read, so that a longer one shows.
-fn list(path: &[u8], bytes: &[u8]) {
-    let fd = os::open_read(path);
-    if fd < 0 {
-        os::fail(path);
-        return;
-    }
+fn list<R: Files + Eprint + AllocGlobal>(
+    out: &mut impl Write,
+    inputs: &mut Inputs<'_, R>,
+    path: &str,
+    bytes: &[u8],
+) -> io::Result<()> {
+    let Some(mut file) = inputs.open(path)? else {
+        return Ok(());
+    };
     let mut text = [0u8; 131072];
     let mut lines = room();
-    let n = io::read_full(fd, &mut text);
-    libc::close(fd);
+    let n = read_full(&mut file, &mut text)?;
     let len = trace_list(bytes, &text[..n], &mut lines);
-    write(&lines, len);
+    write(out, &lines, len)
 }
 
 // The run of a job.
-fn run(bytes: &[u8]) {
+fn run(out: &mut impl Write, bytes: &[u8]) -> io::Result<()> {
     let mut lines = room();
     let len = trace_job(bytes, &mut lines);
-    write(&lines, len);
+    write(out, &lines, len)
 }
 
 // One byte more than a job may have is read, as the driver does.
-fn main() {
+fn main(rt: HostRuntime) -> io::Result<ExitCode> {
     let mut bytes = [0u8; 16421];
-    let n = io::read_full(STDIN_FILENO, &mut bytes);
-    if os::arg_count() < 2 {
-        run(&bytes[..n]);
-        return;
+    let n = read_full(&mut rt.reader(), &mut bytes)?;
+    let mut inputs = Inputs::new(&rt);
+    let mut out = io::writer(&rt);
+    match env::args(&rt)?.nth(1) {
+        None => run(&mut out, &bytes[..n])?,
+        Some(path) => list(&mut out, &mut inputs, path.as_str(), &bytes[..n])?,
     }
-    let mut path = [0u8; 4095];
-    let k = os::arg(1, &mut path);
-    list(&path[..k], &bytes[..n]);
+    Ok(inputs.status())
 }
