@@ -1,171 +1,198 @@
 // Traces stored jobs, and stored lists on them, one after the other, and writes each one's name and its trace.
 #![tactic(auto)]
 
-use libc::STDOUT_FILENO;
+ghost use Rattle.std.specs.Prelude.{◌≤◌, length, IfOk};
+
+use input::{Inputs, read_full};
+use std::io::{self, BufWriter, Write};
+use std::process::ExitCode;
+use std::rt::Files;
 use tracing::{room, trace_job, trace_list, trace_words};
 
-fn text(t: &[u8]) {
-    io::write_all(STDOUT_FILENO, t);
-}
-
-// So many bytes of a buffer, all of them where more are asked for.
-fn front<'a>(bytes: &'a [u8], n: usize) -> &'a [u8] {
-    if n <= bytes.len() { &bytes[..n] } else { bytes }
-}
-
 // A file's bytes, as many as the buffer takes; how many there are.
-fn read(path: &[u8], bytes: &mut [u8]) -> usize {
-    let fd = os::open_read(path);
-    if fd < 0 {
-        os::fail(path);
-        return 0;
-    }
-    let n = io::read_full(fd, bytes);
-    libc::close(fd);
-    n
+fn read<R: Files + Eprint + AllocGlobal>(
+    inputs: &mut Inputs<'_, R>,
+    path: &str,
+    bytes: &mut [u8],
+) -> io::Result<usize>
+    ensures { IfOk result (λ n. n ≤ length bytes.new) }
+{
+    let Some(mut file) = inputs.open(path)? else {
+        return Ok(0);
+    };
+    read_full(&mut file, bytes)
 }
 
 // The lines that were made.
-fn write(lines: &[u8], len: usize) {
+fn write(out: &mut impl Write, lines: &[u8], len: usize) -> io::Result<()> {
     if len <= lines.len() {
-        io::write_all(STDOUT_FILENO, &lines[..len]);
+        out.write_all(&lines[..len])?;
     }
+    Ok(())
 }
 
 // The first and the last four hundred bytes of the lines.
-fn write_ends(lines: &[u8], len: usize) {
+fn write_ends(out: &mut impl Write, lines: &[u8], len: usize) -> io::Result<()> {
     if len <= lines.len() {
         if 800 < len {
             let from = len - 400;
-            write(lines, 400);
-            text(b"\n..\n");
-            io::write_all(STDOUT_FILENO, &lines[from..len]);
+            write(out, lines, 400)?;
+            out.write_all(b"\n..\n")?;
+            out.write_all(&lines[from..len])?;
         }
     }
+    Ok(())
 }
 
 // The trace of a job.
-fn job(path: &[u8]) {
+fn job<R: Files + Eprint + AllocGlobal>(
+    out: &mut impl Write,
+    inputs: &mut Inputs<'_, R>,
+    path: &str,
+) -> io::Result<()> {
     let mut bytes = [0u8; 16421];
     let mut lines = room();
-    text(path);
-    text(b"\n");
-    let n = read(path, &mut bytes);
-    let len = trace_job(front(&bytes, n), &mut lines);
-    write(&lines, len);
+    writeln!(out, "{path}")?;
+    let n = read(inputs, path, &mut bytes)?;
+    let len = trace_job(&bytes[..n], &mut lines);
+    write(out, &lines, len)
 }
 
 // The same of a long one, cut.
-fn long_job(path: &[u8]) {
+fn long_job<R: Files + Eprint + AllocGlobal>(
+    out: &mut impl Write,
+    inputs: &mut Inputs<'_, R>,
+    path: &str,
+) -> io::Result<()> {
     let mut bytes = [0u8; 16421];
     let mut lines = room();
-    text(path);
-    text(b"\n");
-    let n = read(path, &mut bytes);
-    let len = trace_job(front(&bytes, n), &mut lines);
-    write_ends(&lines, len);
+    writeln!(out, "{path}")?;
+    let n = read(inputs, path, &mut bytes)?;
+    let len = trace_job(&bytes[..n], &mut lines);
+    write_ends(out, &lines, len)
 }
 
 // The trace of a list on a job.
-fn list(path: &[u8], on: &[u8]) {
+fn list<R: Files + Eprint + AllocGlobal>(
+    out: &mut impl Write,
+    inputs: &mut Inputs<'_, R>,
+    path: &str,
+    on: &str,
+) -> io::Result<()> {
     let mut bytes = [0u8; 16421];
     let mut listed = [0u8; 16421];
     let mut lines = room();
-    text(path);
-    text(b" on ");
-    text(on);
-    text(b"\n");
-    let n = read(on, &mut bytes);
-    let k = read(path, &mut listed);
-    let len = trace_list(front(&bytes, n), front(&listed, k), &mut lines);
-    write(&lines, len);
+    writeln!(out, "{path} on {on}")?;
+    let n = read(inputs, on, &mut bytes)?;
+    let k = read(inputs, path, &mut listed)?;
+    let len = trace_list(&bytes[..n], &listed[..k], &mut lines);
+    write(out, &lines, len)
 }
 
 // The trace of operation words, for those that no text gives.
-fn words(name: &[u8], on: &[u8], list: &[u32]) {
+fn words<R: Files + Eprint + AllocGlobal>(
+    out: &mut impl Write,
+    inputs: &mut Inputs<'_, R>,
+    name: &str,
+    on: &str,
+    list: &[u32],
+) -> io::Result<()> {
     let mut bytes = [0u8; 16421];
     let mut lines = room();
-    text(name);
-    text(b" on ");
-    text(on);
-    text(b"\n");
-    let n = read(on, &mut bytes);
-    let len = trace_words(front(&bytes, n), list, &mut lines);
-    write(&lines, len);
+    writeln!(out, "{name} on {on}")?;
+    let n = read(inputs, on, &mut bytes)?;
+    let len = trace_words(&bytes[..n], list, &mut lines);
+    write(out, &lines, len)
 }
 
 // The runs worked by hand, A to L, and N both ways, which shows a stack that is cut.
-fn table() {
-    job(b"a.job");
-    job(b"b.job");
-    job(b"c.job");
-    job(b"d.job");
-    job(b"e.job");
-    job(b"f.job");
-    job(b"g.job");
-    job(b"h.job");
-    job(b"i.job");
-    job(b"j.job");
-    job(b"k.job");
-    job(b"l.job");
-    job(b"n.job");
-    job(b"n2.job");
+fn table<R: Files + Eprint + AllocGlobal>(
+    out: &mut impl Write,
+    inputs: &mut Inputs<'_, R>,
+) -> io::Result<()> {
+    job(out, inputs, "a.job")?;
+    job(out, inputs, "b.job")?;
+    job(out, inputs, "c.job")?;
+    job(out, inputs, "d.job")?;
+    job(out, inputs, "e.job")?;
+    job(out, inputs, "f.job")?;
+    job(out, inputs, "g.job")?;
+    job(out, inputs, "h.job")?;
+    job(out, inputs, "i.job")?;
+    job(out, inputs, "j.job")?;
+    job(out, inputs, "k.job")?;
+    job(out, inputs, "l.job")?;
+    job(out, inputs, "n.job")?;
+    job(out, inputs, "n2.job")
 }
 
 // Each other code that a job can get from the driver.
-fn codes() {
-    job(b"code1.job");
-    job(b"code2.job");
-    job(b"code3.job");
-    job(b"code4.job");
-    job(b"code5.job");
-    job(b"code10.job");
-    long_job(b"code11.job");
-    job(b"empty.job");
+fn codes<R: Files + Eprint + AllocGlobal>(
+    out: &mut impl Write,
+    inputs: &mut Inputs<'_, R>,
+) -> io::Result<()> {
+    job(out, inputs, "code1.job")?;
+    job(out, inputs, "code2.job")?;
+    job(out, inputs, "code3.job")?;
+    job(out, inputs, "code4.job")?;
+    job(out, inputs, "code5.job")?;
+    job(out, inputs, "code10.job")?;
+    long_job(out, inputs, "code11.job")?;
+    job(out, inputs, "empty.job")
 }
 
 // Each verdict on a list from elsewhere, the driver's own output first.
-fn verdicts() {
-    list(b"l.list", b"l.job");
-    list(b"restored.list", b"v.job");
-    list(b"32.list", b"v.job");
-    list(b"32zero.list", b"v.job");
-    list(b"33.list", b"v.job");
-    list(b"34.list", b"v.job");
-    list(b"35.list", b"v.job");
-    list(b"36.list", b"n.job");
-    list(b"37.list", b"v.job");
-    list(b"38.list", b"v.job");
-    list(b"39.list", b"full.job");
-    list(b"40.list", b"v.job");
-    list(b"41.list", b"v.job");
-    list(b"41.list", b"code1.job");
-    list(b"41.list", b"code2.job");
-    list(b"41.list", b"code3.job");
-    list(b"41.list", b"code4.job");
-    list(b"41.list", b"code5.job");
-    list(b"41.list", b"empty.job");
+fn verdicts<R: Files + Eprint + AllocGlobal>(
+    out: &mut impl Write,
+    inputs: &mut Inputs<'_, R>,
+) -> io::Result<()> {
+    list(out, inputs, "l.list", "l.job")?;
+    list(out, inputs, "restored.list", "v.job")?;
+    list(out, inputs, "32.list", "v.job")?;
+    list(out, inputs, "32zero.list", "v.job")?;
+    list(out, inputs, "33.list", "v.job")?;
+    list(out, inputs, "34.list", "v.job")?;
+    list(out, inputs, "35.list", "v.job")?;
+    list(out, inputs, "36.list", "n.job")?;
+    list(out, inputs, "37.list", "v.job")?;
+    list(out, inputs, "38.list", "v.job")?;
+    list(out, inputs, "39.list", "full.job")?;
+    list(out, inputs, "40.list", "v.job")?;
+    list(out, inputs, "41.list", "v.job")?;
+    list(out, inputs, "41.list", "code1.job")?;
+    list(out, inputs, "41.list", "code2.job")?;
+    list(out, inputs, "41.list", "code3.job")?;
+    list(out, inputs, "41.list", "code4.job")?;
+    list(out, inputs, "41.list", "code5.job")?;
+    list(out, inputs, "41.list", "empty.job")
 }
 
 // Words that are no list, and lists that cannot be read.
-fn no_lists() {
+fn no_lists<R: Files + Eprint + AllocGlobal>(
+    out: &mut impl Write,
+    inputs: &mut Inputs<'_, R>,
+) -> io::Result<()> {
     let odd = [3u32, 0, 3];
-    words(b"3 words", b"v.job", &odd);
+    words(out, inputs, "3 words", "v.job", &odd)?;
     let unknown = [3u32, 0, 6, 258];
-    words(b"an unknown kind", b"v.job", &unknown);
+    words(out, inputs, "an unknown kind", "v.job", &unknown)?;
     let argument = [3u32, 7];
-    words(b"a Pop with an argument", b"v.job", &argument);
-    list(b"spelling.list", b"v.job");
-    list(b"zero.list", b"v.job");
-    list(b"large.list", b"v.job");
-    list(b"exchange.list", b"v.job");
-    list(b"answer.list", b"v.job");
-    list(b"many.list", b"v.job");
+    words(out, inputs, "a Pop with an argument", "v.job", &argument)?;
+    list(out, inputs, "spelling.list", "v.job")?;
+    list(out, inputs, "zero.list", "v.job")?;
+    list(out, inputs, "large.list", "v.job")?;
+    list(out, inputs, "exchange.list", "v.job")?;
+    list(out, inputs, "answer.list", "v.job")?;
+    list(out, inputs, "many.list", "v.job")
 }
 
-fn main() {
-    table();
-    codes();
-    verdicts();
-    no_lists();
+fn main(rt: HostRuntime) -> io::Result<ExitCode> {
+    let mut out = BufWriter::new(rt.alloc(), io::writer(&rt))?;
+    let mut inputs = Inputs::new(&rt);
+    table(&mut out, &mut inputs)?;
+    codes(&mut out, &mut inputs)?;
+    verdicts(&mut out, &mut inputs)?;
+    no_lists(&mut out, &mut inputs)?;
+    out.flush()?;
+    Ok(inputs.status())
 }
