@@ -1,4 +1,4 @@
-// What the programs read: as many bytes as a buffer takes, and files by name, of which one that cannot be opened is named on standard error.
+// What the programs read: bytes until a buffer is full, and files by name; one that cannot be opened is named on standard error.
 #![tactic(auto)]
 
 ghost use Rattle.std.specs.Prelude.{◌≡◌, ◌<◌, ◌≤◌, true, false, length, take, IfOk, IfNone};
