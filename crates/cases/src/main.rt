@@ -4,18 +4,18 @@
 use answer::Written;
 use driving::answer_job;
 use input::{Inputs, read_full};
-use std::io::{self, BufWriter, Write};
+use std::io::{self, Write};
 use std::process::ExitCode;
 use std::rt::Files;
 
 // One stored job: its name, then its answer. One byte more than a job may have is read, as the driver does.
-fn one<R: Files + Eprint + AllocGlobal>(
+fn one<R: Files + Eprint>(
     out: &mut impl Write,
     inputs: &mut Inputs<'_, R>,
     path: &str,
 ) -> io::Result<()> {
     writeln!(out, "{path}")?;
-    let Some(mut file) = inputs.open(path)? else {
+    let Some(mut file) = inputs.open(path) else {
         return Ok(());
     };
     let mut bytes = [0u8; 16421];
@@ -34,10 +34,7 @@ fn one<R: Files + Eprint + AllocGlobal>(
 }
 
 // The runs worked by hand, A to L, and N both ways.
-fn table<R: Files + Eprint + AllocGlobal>(
-    out: &mut impl Write,
-    inputs: &mut Inputs<'_, R>,
-) -> io::Result<()> {
+fn table<R: Files + Eprint>(out: &mut impl Write, inputs: &mut Inputs<'_, R>) -> io::Result<()> {
     one(out, inputs, "a.job")?;
     one(out, inputs, "b.job")?;
     one(out, inputs, "c.job")?;
@@ -55,10 +52,7 @@ fn table<R: Files + Eprint + AllocGlobal>(
 }
 
 // Each other code that a shuffle gives the driver, 1 to 5, 10 and 11, and the jobs next to 4 and 5 that pass.
-fn codes<R: Files + Eprint + AllocGlobal>(
-    out: &mut impl Write,
-    inputs: &mut Inputs<'_, R>,
-) -> io::Result<()> {
+fn codes<R: Files + Eprint>(out: &mut impl Write, inputs: &mut Inputs<'_, R>) -> io::Result<()> {
     one(out, inputs, "code1.job")?;
     one(out, inputs, "code2.job")?;
     one(out, inputs, "code3.job")?;
@@ -71,10 +65,7 @@ fn codes<R: Files + Eprint + AllocGlobal>(
 }
 
 // Bytes that are no job, each for one reason: too short, an offset, a sum that would wrap, a length, a limit; and those next to them that are jobs.
-fn no_jobs<R: Files + Eprint + AllocGlobal>(
-    out: &mut impl Write,
-    inputs: &mut Inputs<'_, R>,
-) -> io::Result<()> {
+fn no_jobs<R: Files + Eprint>(out: &mut impl Write, inputs: &mut Inputs<'_, R>) -> io::Result<()> {
     one(out, inputs, "empty.job")?;
     one(out, inputs, "short35.job")?;
     one(out, inputs, "start_offset.job")?;
@@ -99,11 +90,10 @@ fn no_jobs<R: Files + Eprint + AllocGlobal>(
 }
 
 fn main(rt: HostRuntime) -> io::Result<ExitCode> {
-    let mut out = BufWriter::new(rt.alloc(), io::writer(&rt))?;
+    let mut out = io::writer(&rt);
     let mut inputs = Inputs::new(&rt);
     table(&mut out, &mut inputs)?;
     codes(&mut out, &mut inputs)?;
     no_jobs(&mut out, &mut inputs)?;
-    out.flush()?;
     Ok(inputs.status())
 }

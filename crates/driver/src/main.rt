@@ -21,5 +21,5 @@ fn main(rt: HostRuntime) -> io::Result<()> {
         Written::NoRoom => {}
         Written::NoOperations => {}
     }
-    out.flush()
+    Ok(())
 }

@@ -2,8 +2,8 @@
 use Rattle.std.proofs.Common.{◌≡◌, ℕ, ◌+◌, ◌-◌, ◌≤◌, List, ◌++◌, Option, length, take, slice_range}
 use Rattle.std.proofs.Common.{arith, sym, ap, ◌∙◌, subst, le_refl, drop_at, length-take-le}
 use Rattle.std.proofs.lemmas.Slice.{take-put_mid_below}
-use Rattle.std.specs.Io.KnownBytes.{Consumes, Keeps}
-use Rattle.std.proofs.KnownBytes.{Consumes-trans, Consumes-kept}
+use Rattle.std.specs.Io.KnownBytes.{Consumes}
+use Rattle.std.proofs.KnownBytes.{Consumes-trans}
 use borrow.Rule.Slice.PartMut.{put_mid, post_of}
 use lib.Seq.{take-add, take-append-le}
 
@@ -27,9 +27,3 @@ read_more old mid new a k n xs ys within fits first second =
     let part = slice_range-put_mid a k n xs ys within fits in
     let joined = take_split a (a + n) xs (put_mid a k xs ys) (omega arith) (take-put_mid_below _ _ _ _ _ (le_refl _) within) in
     subst (Consumes old new) (ap (λ l. take a xs ++ l) (sym part) ∙ joined) (Consumes-trans _ _ _ _ _ first second)
-
--- a read that failed took nothing
-pub read_none : (old mid new : Option (List ℕ)) (a k : ℕ) (xs ys : List ℕ) → a ≤ length xs
-    → Consumes old mid (take a xs) → Keeps mid new → Consumes old new (take a (put_mid a k xs ys))
-read_none old mid new a k xs ys within first kept =
-    subst (Consumes old new) (sym (take-put_mid_below _ _ _ _ _ (le_refl _) within)) (Consumes-kept _ _ _ _ first kept)

@@ -5,10 +5,10 @@ ghost use Rattle.std.specs.Prelude.{◌≡◌, ◌<◌, ◌≤◌, true, false, 
 ghost use Rattle.std.specs.Io.KnownBytes.{Consumes, IsAtEnd};
 ghost use Rattle.std.specs.Process.{exit_status};
 
-use std::fs;
-use std::io::{self, ErrorKind, Read};
+use std::io::{self, Cursor, Read, Write};
 use std::process::ExitCode;
 use std::rt::Files;
+use std::{fs, str};
 
 // Reads until the buffer is full or the reader ends; how many bytes came, at the buffer's low end.
 pub fn read_full<R: Read>(reader: &mut R, bytes: &mut [u8]) -> io::Result<usize>
@@ -17,21 +17,14 @@ pub fn read_full<R: Read>(reader: &mut R, bytes: &mut [u8]) -> io::Result<usize>
     ensures end { IfOk result (λ n. n < length bytes.new → IsAtEnd (R.remaining reader.new)) }
 {
     let mut filled = 0;
-    for _ in 0..u64::MAX {
-        if filled == bytes.len() {
-            return Ok(filled);
+    while filled < bytes.len() {
+        let n = reader.read(&mut bytes[filled..])?;
+        if n == 0 {
+            break;
         }
-        match reader.read(&mut bytes[filled..]) {
-            Ok(0) => return Ok(filled),
-            Ok(n) => filled += n,
-            Err(error) => {
-                if error.kind() != ErrorKind::Interrupted {
-                    return Err(error);
-                }
-            }
-        }
+        filled += n;
     }
-    Err(io::Error::from(ErrorKind::Interrupted))
+    Ok(filled)
 }
 
 // The files of a run, and whether one of them could not be opened.
@@ -41,7 +34,7 @@ pub struct Inputs<'a, R> {
     missing: bool,
 }
 
-impl<'a, R: Files + Eprint + AllocGlobal> Inputs<'a, R> {
+impl<'a, R: Files + Eprint> Inputs<'a, R> {
     pub fn new(rt: &'a R) -> Inputs<'a, R>
         ensures { result.missing ≡ false }
     {
@@ -49,17 +42,23 @@ impl<'a, R: Files + Eprint + AllocGlobal> Inputs<'a, R> {
     }
 
     // The file, or nothing where it cannot be opened. Then a line on standard error has its name and what the system says.
-    pub fn open(&mut self, path: &str) -> io::Result<Option<R::File>>
-        ensures named { IfOk result (λ file. IfNone file (self.new.missing ≡ true)) }
+    pub fn open(&mut self, path: &str) -> Option<R::File>
+        ensures named { IfNone result (self.new.missing ≡ true) }
         ensures kept { self.old.missing ≡ true → self.new.missing ≡ true }
     {
         match fs::open(self.rt, path) {
-            Ok(file) => Ok(Some(file)),
+            Ok(file) => Some(file),
             Err(error) => {
                 self.missing = true;
-                let said = error.to_string(self.rt.alloc())?;
-                let _ = eprintln!(self.rt; "{path}: {}", before(said.as_str(), " (os error "));
-                Ok(None)
+                let mut said = Cursor::new([0u8; 256]);
+                let _ = write!(said, "{error}");
+                let len = said.position() as usize;
+                let text = said.get_ref().get(..len).unwrap_or(b"");
+                let _ = eprintln!(self.rt;
+                    "{path}: {}",
+                    before(str::from_utf8(text).unwrap_or(""), " (os error ")
+                );
+                None
             }
         }
     }

@@ -1,7 +1,7 @@
 // Runs each call of the stacks on both sides of each of its limits, and writes a line for each trial: what was asked, and the whole answer.
 #![tactic(auto)]
 
-use std::io::{self, BufWriter, Write};
+use std::io;
 
 pub mod making;
 pub mod settings;
@@ -10,10 +10,9 @@ pub mod stacks;
 pub mod tracking;
 
 fn main(rt: HostRuntime) -> io::Result<()> {
-    let mut out = BufWriter::new(rt.alloc(), io::writer(&rt))?;
+    let mut out = io::writer(&rt);
     stacks::run(&mut out)?;
     making::run(&mut out)?;
     tracking::run(&mut out)?;
-    settings::run(&mut out)?;
-    out.flush()
+    settings::run(&mut out)
 }

@@ -3,7 +3,7 @@
 
 use compare::Outcome;
 use input::{Inputs, read_full};
-use std::io::{self, BufWriter, Read, Write};
+use std::io::{self, Read, Write};
 use std::process::ExitCode;
 use std::rt::Files;
 
@@ -92,13 +92,13 @@ fn records(
 }
 
 // One class: a line with its jobs, the codes recorded and how many jobs differ. A file that is not there differs.
-fn class<R: Files + Eprint + AllocGlobal>(
+fn class<R: Files + Eprint>(
     out: &mut impl Write,
     inputs: &mut Inputs<'_, R>,
     t: Tally,
     name: &str,
 ) -> io::Result<Tally> {
-    let Some(mut file) = inputs.open(name)? else {
+    let Some(mut file) = inputs.open(name) else {
         return Ok(Tally {
             jobs: t.jobs,
             differ: t.differ.saturating_add(1),
@@ -117,7 +117,7 @@ fn class<R: Files + Eprint + AllocGlobal>(
 }
 
 fn main(rt: HostRuntime) -> io::Result<ExitCode> {
-    let mut out = BufWriter::new(rt.alloc(), io::writer(&rt))?;
+    let mut out = io::writer(&rt);
     let mut inputs = Inputs::new(&rt);
     let none = Tally { jobs: 0, differ: 0 };
     let a = class(&mut out, &mut inputs, none, "cases")?;
@@ -135,6 +135,5 @@ fn main(rt: HostRuntime) -> io::Result<ExitCode> {
     let jobs = all.jobs;
     let differ = all.differ;
     writeln!(out, "{jobs} jobs, {differ} differ")?;
-    out.flush()?;
     Ok(inputs.status())
 }

@@ -2,10 +2,11 @@
 #![tactic(auto)]
 
 use input::{Inputs, read_full};
-use std::env;
-use std::io::{self, Write};
+use std::env::{Env, FillError};
+use std::io::{self, ErrorKind, Write};
 use std::process::ExitCode;
 use std::rt::Files;
+use std::str;
 use tracing::{room, trace_job, trace_list};
 
 // The lines that were made.
@@ -13,17 +14,17 @@ fn write(out: &mut impl Write, lines: &[u8], len: usize) -> io::Result<()> {
     if len <= lines.len() {
         out.write_all(&lines[..len])?;
     }
-    out.flush()
+    Ok(())
 }
 
 // The list in a file, on a job. One byte more than a list may have is read, so that a longer one shows.
-fn list<R: Files + Eprint + AllocGlobal>(
+fn list<R: Files + Eprint>(
     out: &mut impl Write,
     inputs: &mut Inputs<'_, R>,
     path: &str,
     bytes: &[u8],
 ) -> io::Result<()> {
-    let Some(mut file) = inputs.open(path)? else {
+    let Some(mut file) = inputs.open(path) else {
         return Ok(());
     };
     let mut text = [0u8; 131072];
@@ -40,15 +41,20 @@ fn run(out: &mut impl Write, bytes: &[u8]) -> io::Result<()> {
     write(out, &lines, len)
 }
 
-// One byte more than a job may have is read, as the driver does.
+// One byte more than a job may have is read, as the driver does. A name that no path can have is taken for an empty one.
 fn main(rt: HostRuntime) -> io::Result<ExitCode> {
     let mut bytes = [0u8; 16421];
     let n = read_full(&mut rt.reader(), &mut bytes)?;
     let mut inputs = Inputs::new(&rt);
     let mut out = io::writer(&rt);
-    match env::args(&rt)?.nth(1) {
-        None => run(&mut out, &bytes[..n])?,
-        Some(path) => list(&mut out, &mut inputs, path.as_str(), &bytes[..n])?,
+    let mut path = [0u8; 4095];
+    match rt.arg(1, &mut path) {
+        Err(FillError::NotPresent) => run(&mut out, &bytes[..n])?,
+        Err(FillError::TooLong) => list(&mut out, &mut inputs, "", &bytes[..n])?,
+        Ok(k) => match str::from_utf8(&path[..k]) {
+            Ok(path) => list(&mut out, &mut inputs, path, &bytes[..n])?,
+            Err(_) => return Err(io::Error::from(ErrorKind::InvalidInput)),
+        },
     }
     Ok(inputs.status())
 }

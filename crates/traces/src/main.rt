@@ -4,20 +4,20 @@
 ghost use Rattle.std.specs.Prelude.{◌≤◌, length, IfOk};
 
 use input::{Inputs, read_full};
-use std::io::{self, BufWriter, Write};
+use std::io::{self, Write};
 use std::process::ExitCode;
 use std::rt::Files;
 use tracing::{room, trace_job, trace_list, trace_words};
 
 // A file's bytes, as many as the buffer takes; how many there are.
-fn read<R: Files + Eprint + AllocGlobal>(
+fn read<R: Files + Eprint>(
     inputs: &mut Inputs<'_, R>,
     path: &str,
     bytes: &mut [u8],
 ) -> io::Result<usize>
     ensures { IfOk result (λ n. n ≤ length bytes.new) }
 {
-    let Some(mut file) = inputs.open(path)? else {
+    let Some(mut file) = inputs.open(path) else {
         return Ok(0);
     };
     read_full(&mut file, bytes)
@@ -45,7 +45,7 @@ fn write_ends(out: &mut impl Write, lines: &[u8], len: usize) -> io::Result<()> 
 }
 
 // The trace of a job.
-fn job<R: Files + Eprint + AllocGlobal>(
+fn job<R: Files + Eprint>(
     out: &mut impl Write,
     inputs: &mut Inputs<'_, R>,
     path: &str,
@@ -59,7 +59,7 @@ fn job<R: Files + Eprint + AllocGlobal>(
 }
 
 // The same of a long one, cut.
-fn long_job<R: Files + Eprint + AllocGlobal>(
+fn long_job<R: Files + Eprint>(
     out: &mut impl Write,
     inputs: &mut Inputs<'_, R>,
     path: &str,
@@ -73,7 +73,7 @@ fn long_job<R: Files + Eprint + AllocGlobal>(
 }
 
 // The trace of a list on a job.
-fn list<R: Files + Eprint + AllocGlobal>(
+fn list<R: Files + Eprint>(
     out: &mut impl Write,
     inputs: &mut Inputs<'_, R>,
     path: &str,
@@ -90,7 +90,7 @@ fn list<R: Files + Eprint + AllocGlobal>(
 }
 
 // The trace of operation words, for those that no text gives.
-fn words<R: Files + Eprint + AllocGlobal>(
+fn words<R: Files + Eprint>(
     out: &mut impl Write,
     inputs: &mut Inputs<'_, R>,
     name: &str,
@@ -106,10 +106,7 @@ fn words<R: Files + Eprint + AllocGlobal>(
 }
 
 // The runs worked by hand, A to L, and N both ways, which shows a stack that is cut.
-fn table<R: Files + Eprint + AllocGlobal>(
-    out: &mut impl Write,
-    inputs: &mut Inputs<'_, R>,
-) -> io::Result<()> {
+fn table<R: Files + Eprint>(out: &mut impl Write, inputs: &mut Inputs<'_, R>) -> io::Result<()> {
     job(out, inputs, "a.job")?;
     job(out, inputs, "b.job")?;
     job(out, inputs, "c.job")?;
@@ -127,10 +124,7 @@ fn table<R: Files + Eprint + AllocGlobal>(
 }
 
 // Each other code that a job can get from the driver.
-fn codes<R: Files + Eprint + AllocGlobal>(
-    out: &mut impl Write,
-    inputs: &mut Inputs<'_, R>,
-) -> io::Result<()> {
+fn codes<R: Files + Eprint>(out: &mut impl Write, inputs: &mut Inputs<'_, R>) -> io::Result<()> {
     job(out, inputs, "code1.job")?;
     job(out, inputs, "code2.job")?;
     job(out, inputs, "code3.job")?;
@@ -142,10 +136,7 @@ fn codes<R: Files + Eprint + AllocGlobal>(
 }
 
 // Each verdict on a list from elsewhere, the driver's own output first.
-fn verdicts<R: Files + Eprint + AllocGlobal>(
-    out: &mut impl Write,
-    inputs: &mut Inputs<'_, R>,
-) -> io::Result<()> {
+fn verdicts<R: Files + Eprint>(out: &mut impl Write, inputs: &mut Inputs<'_, R>) -> io::Result<()> {
     list(out, inputs, "l.list", "l.job")?;
     list(out, inputs, "restored.list", "v.job")?;
     list(out, inputs, "32.list", "v.job")?;
@@ -168,10 +159,7 @@ fn verdicts<R: Files + Eprint + AllocGlobal>(
 }
 
 // Words that are no list, and lists that cannot be read.
-fn no_lists<R: Files + Eprint + AllocGlobal>(
-    out: &mut impl Write,
-    inputs: &mut Inputs<'_, R>,
-) -> io::Result<()> {
+fn no_lists<R: Files + Eprint>(out: &mut impl Write, inputs: &mut Inputs<'_, R>) -> io::Result<()> {
     let odd = [3u32, 0, 3];
     words(out, inputs, "3 words", "v.job", &odd)?;
     let unknown = [3u32, 0, 6, 258];
@@ -187,12 +175,11 @@ fn no_lists<R: Files + Eprint + AllocGlobal>(
 }
 
 fn main(rt: HostRuntime) -> io::Result<ExitCode> {
-    let mut out = BufWriter::new(rt.alloc(), io::writer(&rt))?;
+    let mut out = io::writer(&rt);
     let mut inputs = Inputs::new(&rt);
     table(&mut out, &mut inputs)?;
     codes(&mut out, &mut inputs)?;
     verdicts(&mut out, &mut inputs)?;
     no_lists(&mut out, &mut inputs)?;
-    out.flush()?;
     Ok(inputs.status())
 }

@@ -1,7 +1,7 @@
 // Puts to the checker a list for each of its codes, and lists on both sides of each limit. It writes what it lends, the verdict, and the slots after it.
 #![tactic(auto)]
 
-use std::io::{self, BufWriter, Write};
+use std::io::{self, Write};
 
 fn wide(x: u32) -> u64 {
     x as u64
@@ -318,7 +318,7 @@ fn no_slots(out: &mut impl Write) -> io::Result<()> {
 }
 
 fn main(rt: HostRuntime) -> io::Result<()> {
-    let mut out = BufWriter::new(rt.alloc(), io::writer(&rt))?;
+    let mut out = io::writer(&rt);
     kinds(&mut out)?;
     swaps(&mut out)?;
     dups(&mut out)?;
@@ -330,6 +330,5 @@ fn main(rt: HostRuntime) -> io::Result<()> {
     deep(&mut out)?;
     jobs(&mut out)?;
     last_slots(&mut out)?;
-    no_slots(&mut out)?;
-    out.flush()
+    no_slots(&mut out)
 }
