@@ -2,7 +2,7 @@
 use Prim.Native.Nat.{ℕ, ◌*◌, ◌≤◌}
 use native.Mathlib.Omega.{arith}
 use mathlib.Core.Path.{◌≡◌, refl}
-use mathlib.Core.Option.{some}
+use Rattle.std.proofs.Common.{Some as some}
 use mathlib.Core.List.{List, [], ◌∷◌}
 use lib.ListN.{length, length-replicate}
 use borrow.Author.Tests.{le-ltb}

@@ -1,174 +1,137 @@
--- Words two by two: a loop over them, and what they say as a whole.
-use Prim.Native.Nat.{ℕ, suc, ◌+◌, ◌-◌, ◌*◌, ◌≤◌, ◌<◌}
+-- What records say, one after the other, and what is written of it.
+use Prim.Native.Nat.{ℕ, ◌+◌, ◌%◌, ◌≤◌}
 use native.Mathlib.Omega.{arith}
-use mathlib.Core.Path.{◌≡◌, refl, sym, ap, ◌∙◌}
-use mathlib.Core.Bool.{Bool, true, false, true≢false, false≢true}
-use mathlib.Core.Option.{Option, none, some, none-ne-some, some-injective}
+use native.Mathlib.Nat.{zero-add, add-zero}
+use mathlib.Core.Path.{◌≡◌, refl, ap, ◌∙◌}
+use Rattle.std.proofs.Common.{Option, None as none, Some as some}
+use Rattle.std.proofs.lemmas.Option.{none-some as none-ne-some, same_Some as some-injective}
 use mathlib.Core.List.{List, [], ◌∷◌, ◌++◌}
-use lib.ListN.{length, get_or, drop, length-append, length-drop, drop_of_length-le}
-use lib.Seq.{sets, drop-cons}
-use borrow.Author.Tests.{le-leb, lt-leb, ne_eqb}
+use lib.ListN.{length, length-append}
 use Rattle.scope.specs.declared.Op.{Op}
 use Rattle.scope.specs.declared.Op.TheVariants.{Swap, Dup, Pop, Store, Load}
-use Rattle.scope.specs.Machine.{gas_total}
+use Rattle.scope.specs.declared.StackOps.{StackOps}
+use Rattle.scope.specs.Machine.{gas_of, gas_total}
+use Rattle.scope.specs.Stack.{printed, stack_op}
 use Rattle.scope.specs.JobFile.{op_lines}
-use Rattle.printing.specs.Promises.{Laid}
-use Rattle.printing.proofs.Pasting.{sets-append}
-use Rattle.answer.specs.declared.Said.TheVariants.{Is, Nothing}
-use Rattle.answer.specs.Promises.{said, said_of, one_more, ops_in, is_some, all_some, line_of, lines_in, gas_said, gas_in}
+use Rattle.reader.specs.declared.Record.{Record}
+use Rattle.reader.specs.Promises.{records}
+use Rattle.printing.specs.Promises.{Lays}
+use Rattle.printing.proofs.Laying.{then, none-laid}
+use Rattle.answer.specs.declared.Measured.{Measured}
+use Rattle.answer.specs.Promises.{said, one_more, ops_in, measured}
 
--- ---- What two words say
+-- the operations that records say
+pub said_all : List Record → Option (List Op)
+said_all [] = some []
+said_all (r ∷ rs) = one_more (said r.kind r.argument) (said_all rs)
 
-module _ (k a : ℕ) where
-  pub says-swap : k ≡ 1 → a ≤ 255 → said_of (Is (Swap a)) ≡ said k a
-  unfolding said
-  says-swap e h = rw (e, le-leb a 255 h)
+pub even-words : (ws : List ℕ) → length ws % 2 ≡ 0 → said_all (records ws) ≡ ops_in ws
+unfolding ops_in said_all
+even-words [] h = refl
+even-words (k ∷ []) h = absurd (omega arith)
+even-words (k ∷ a ∷ ws) h = ap (one_more (said k a)) (even-words ws (omega arith))
 
-  pub swap-too-deep : k ≡ 1 → 255 < a → said_of Nothing ≡ said k a
-  unfolding said
-  swap-too-deep e h = rw (e, lt-leb a 255 h)
-
-  pub says-dup : k ≡ 2 → a ≤ 255 → said_of (Is (Dup a)) ≡ said k a
-  unfolding said
-  says-dup e h = rw (e, le-leb a 255 h)
-
-  pub dup-too-deep : k ≡ 2 → 255 < a → said_of Nothing ≡ said k a
-  unfolding said
-  dup-too-deep e h = rw (e, lt-leb a 255 h)
-
-  pub says-pop : k ≡ 3 → a ≡ 0 → said_of (Is Pop) ≡ said k a
-  unfolding said
-  says-pop e h = rw (e, h)
-
-  pub pop-with-more : k ≡ 3 → (a ≡ 0 → ⊥) → said_of Nothing ≡ said k a
-  unfolding said
-  pop-with-more e h = rw (e, ne_eqb a 0 h)
-
-  pub says-store : k ≡ 4 → said_of (Is (Store a)) ≡ said k a
-  unfolding said
-  says-store e = rw e
-
-  pub says-load : k ≡ 5 → said_of (Is (Load a)) ≡ said k a
-  unfolding said
-  says-load e = rw e
-
-  pub says_nothing : (k ≡ 1 → ⊥) → (k ≡ 2 → ⊥) → (k ≡ 3 → ⊥) → (k ≡ 4 → ⊥) → (k ≡ 5 → ⊥) → said_of Nothing ≡ said k a
-  unfolding said
-  says_nothing e f g h i = rw (ne_eqb k 1 e, ne_eqb k 2 f, ne_eqb k 3 g, ne_eqb k 4 h, ne_eqb k 5 i)
-
-pub ruleset saying = (says-swap, swap-too-deep, says-dup, dup-too-deep, says-pop, pop-with-more, says-store, says-load, says_nothing)
-
--- ---- Two by two
-
--- the next two words, where there are two
-two : (ws : List ℕ) (i : ℕ) → 1 < length ws - i → drop i ws ≡ get_or ws i 0 ∷ get_or ws (i + 1) 0 ∷ drop (i + 2) ws
-two ws i h =
-    let e1 : i + 1 ≡ suc i = omega arith in
-    let e2 : i + 2 ≡ suc (suc i) = omega arith in
-    rw (e1, e2, drop-cons ws i 0 (omega arith), drop-cons ws (suc i) 0 (omega arith))
-
--- ---- Do they say operations?
-
-more-some : (o : Option Op) (rest : Option (List Op)) → is_some o ≡ true → all_some (one_more o rest) ≡ all_some rest
-more-some none rest h = absurd (false≢true h)
-more-some (some o) none h = refl
-more-some (some o) (some os) h = refl
-
-more-none : (o : Option Op) (rest : Option (List Op)) → is_some o ≡ false → all_some (one_more o rest) ≡ false
-more-none none rest h = refl
-more-none (some o) rest h = absurd (true≢false h)
-
-module _ (ws : List ℕ) (i : ℕ) (whole : Bool) (left : all_some (ops_in (drop i ws)) ≡ whole) where
-  pub ops-odd : i < length ws → length ws - i < 2 → false ≡ whole
-  unfolding ops_in
-  ops-odd h k = rw (drop-cons ws i 0, drop_of_length-le ws {i = suc i} (omega arith)) at left
-
-  pub ops-not : (b : Bool) → b ≡ is_some (said (get_or ws i 0) (get_or ws (i + 1) 0)) → b ≡ false → 2 ≤ length ws - i → false ≡ whole
-  unfolding ops_in
-  ops-not b e f h =
-      sym (more-none (said (get_or ws i 0) (get_or ws (i + 1) 0)) (ops_in (drop (i + 2) ws)) (sym e ∙ f)) ∙ (rw (two ws i h) at left)
-
-  pub ops-again : (b : Bool) → b ≡ is_some (said (get_or ws i 0) (get_or ws (i + 1) 0)) → b ≡ true → 2 ≤ length ws - i → all_some (ops_in (drop (i + 2) ws)) ≡ whole
-  unfolding ops_in
-  ops-again b e f h =
-      sym (more-some (said (get_or ws i 0) (get_or ws (i + 1) 0)) (ops_in (drop (i + 2) ws)) (sym e ∙ f)) ∙ (rw (two ws i h) at left)
-
-  pub ops-end : length ws ≤ i → true ≡ whole
-  unfolding ops_in
-  ops-end h = rw (drop_of_length-le ws {i = i} h) at left
-
-pub ruleset ops-loop = (ops-odd, ops-not, ops-again, ops-end)
-
--- ---- Their lines and their gas
-
-no_lines : (l : List ℕ) → length l ≤ 1 → (lines_in l ≡ []) × (gas_in l ≡ 0)
-unfolding lines_in gas_in
-no_lines [] h = (refl, refl)
-no_lines (k ∷ []) h = (refl, refl)
-no_lines (k ∷ a ∷ l) h = absurd (omega arith)
-
-module _ (ws : List ℕ) (i : ℕ) where
-  none_left : length ws - i ≤ 1 → (lines_in (drop i ws) ≡ []) × (gas_in (drop i ws) ≡ 0)
-  none_left h = no_lines (drop i ws) (simp length-drop h)
-
-  next-line : 1 < length ws - i → lines_in (drop i ws) ≡ line_of (said (get_or ws i 0) (get_or ws (i + 1) 0)) ++ lines_in (drop (i + 2) ws)
-  unfolding lines_in
-  next-line h = rw (two ws i h)
-
-  next-gas : 1 < length ws - i → gas_in (drop i ws) ≡ gas_said (said (get_or ws i 0) (get_or ws (i + 1) 0)) + gas_in (drop (i + 2) ws)
-  unfolding gas_in
-  next-gas h = rw (two ws i h)
-
-  pub len-again : (len n whole : ℕ) → n ≡ length (line_of (said (get_or ws i 0) (get_or ws (i + 1) 0))) → 1 < length ws - i
-      → len + length (lines_in (drop i ws)) ≡ whole → len + n + length (lines_in (drop (i + 2) ws)) ≡ whole
-  len-again len n whole e h k = omega (arith, simp length-append at (ap length (next-line h)))
-
-  pub gas-again : (gas n whole : ℕ) → n ≡ gas_said (said (get_or ws i 0) (get_or ws (i + 1) 0)) → 1 < length ws - i
-      → gas + gas_in (drop i ws) ≡ whole → gas + n + gas_in (drop (i + 2) ws) ≡ whole
-  gas-again gas n whole e h k = omega (arith, next-gas h)
-
-  pub len-end : (len whole : ℕ) → length ws - i ≤ 1 → len + length (lines_in (drop i ws)) ≡ whole → len ≡ whole
-  len-end len whole h k = omega (arith, ap length (none_left h).0)
-
-  pub gas-end : (gas whole : ℕ) → length ws - i ≤ 1 → gas + gas_in (drop i ws) ≡ whole → gas ≡ whole
-  gas-end gas whole h k = omega (arith, (none_left h).1)
-
-  -- a line more in the buffer: what is left, stored into it as it is, gives the whole
-  pub line-again : (l l₁ : List ℕ) (at next : ℕ) (whole : List ℕ) → Laid l at (line_of (said (get_or ws i 0) (get_or ws (i + 1) 0))) l₁ next → 1 < length ws - i
-      → sets l at (lines_in (drop i ws)) ≡ whole → sets l₁ next (lines_in (drop (i + 2) ws)) ≡ whole
-  line-again l l₁ at next whole laid h k = rw (laid.bytes-are, laid.next-is, ← sets-append, ← next-line h) k
-
-  pub line-end : (l : List ℕ) (at : ℕ) (whole : List ℕ) → length ws - i ≤ 1 → sets l at (lines_in (drop i ws)) ≡ whole → l ≡ whole
-  line-end l at whole h k = rw (none_left h).0 at k
-
-  pub line-room : (at whole room : ℕ) → 1 < length ws - i → at + length (lines_in (drop i ws)) ≡ whole → whole ≤ room
-      → at + length (line_of (said (get_or ws i 0) (get_or ws (i + 1) 0))) ≤ room
-  line-room at whole room h k r = omega (arith, simp length-append at (ap length (next-line h)))
-
-  pub line-place : (l l₁ : List ℕ) (at next whole : ℕ) → Laid l at (line_of (said (get_or ws i 0) (get_or ws (i + 1) 0))) l₁ next → 1 < length ws - i
-      → at + length (lines_in (drop i ws)) ≡ whole → next + length (lines_in (drop (i + 2) ws)) ≡ whole
-  line-place l l₁ at next whole laid h k = omega (arith, laid.next-is, simp length-append at (ap length (next-line h)))
-
-  pub place_end : (at whole : ℕ) → length ws - i ≤ 1 → at + length (lines_in (drop i ws)) ≡ whole → at ≡ whole
-  place_end at whole h k = omega (arith, ap length (none_left h).0)
-
--- ---- What they say as a whole
-
-pub record Told (ws : List ℕ) (os : List Op) : Type 0 where
-  pub lines : lines_in ws ≡ op_lines os
-  pub gas : gas_in ws ≡ gas_total os
-  pub count : length ws ≡ 2 * length os
-
-pub told : (ws : List ℕ) (os : List Op) → ops_in ws ≡ some os → Told ws os
-unfolding ops_in lines_in gas_in op_lines gas_total
-told [] os h = rw (← some-injective [] os h) (record { lines = refl; gas = refl; count = refl })
-told (k ∷ []) os h = absurd (none-ne-some os h)
-told (k ∷ a ∷ ws) os h = go (said k a) refl (ops_in ws) refl (told ws)
+pub odd_words : (ws : List ℕ) → (length ws % 2 ≡ 0 → ⊥) → none ≡ ops_in ws
+unfolding ops_in
+odd_words [] h = absurd (h refl)
+odd_words (k ∷ []) h = refl
+odd_words (k ∷ a ∷ ws) h = go (said k a) (ops_in ws) (odd_words ws (λ e. h (omega arith)))
   where
-    go : (o : Option Op) → said k a ≡ o → (r : Option (List Op)) → ops_in ws ≡ r → ((os : List Op) → ops_in ws ≡ some os → Told ws os) → Told (k ∷ a ∷ ws) os
-    go none e r f rest = absurd (none-ne-some os (rw e at h))
-    go (some o) e none f rest = absurd (none-ne-some os (rw (e, f) at h))
-    go (some o) e (some os') f rest =
-        let z : o ∷ os' ≡ os = some-injective (o ∷ os') os (rw (e, f) at h) in
-        let t = rest os' f in
-        rw (← z) (record { lines = rw (e, t.lines); gas = rw (e, t.gas); count = omega (arith, t.count) })
+    go : (o : Option Op) (rest : Option (List Op)) → none ≡ rest → none ≡ one_more o rest
+    go none rest e = refl
+    go (some o) rest e = ap (one_more (some o)) e
+
+pub length-records : (ws : List ℕ) → length (records ws) ≤ length ws
+length-records [] = omega arith
+length-records (k ∷ []) = omega arith
+length-records (k ∷ a ∷ ws) = let h = length-records ws in omega arith
+
+-- ---- What they come to
+
+-- what is counted so far, and what the rest comes to
+abbrev pub counted : ℕ → ℕ → Option (List Op) → Option Measured
+counted len gas none = none
+counted len gas (some os) = some (record { len = len + length (op_lines os); gas = gas + gas_total os })
+
+pub even-counted : (ws : List ℕ) → length ws % 2 ≡ 0 → counted 0 0 (said_all (records ws)) ≡ measured (ops_in ws)
+unfolding op_lines gas_total
+even-counted ws h = ap (counted 0 0) (even-words ws h) ∙ go (ops_in ws)
+  where
+    go : (r : Option (List Op)) → counted 0 0 r ≡ measured r
+    go none = refl
+    go (some os) = simp zero-add refl
+
+module _ (len gas : ℕ) (now : List Record) (whole : Option Measured) (so_far : counted len gas (said_all now) ≡ whole) where
+  pub counted-end : now ≡ [] → some (record { len = len; gas = gas }) ≡ whole
+  unfolding said_all op_lines gas_total
+  counted-end e = simp add-zero at (rw e at so_far)
+
+  module _ (r : Record) (rs : List Record) (next : now ≡ r ∷ rs) where
+    pub counted-none : none ≡ said r.kind r.argument → none ≡ whole
+    unfolding said_all
+    counted-none e = rw (next, ← e) at so_far
+
+    pub counted-more : (o : Op) (n g : ℕ) → some o ≡ said r.kind r.argument → n ≡ length (printed (stack_op o)) → g ≡ gas_of o
+        → counted (len + (n + 1)) (gas + g) (said_all rs) ≡ whole
+    unfolding said_all op_lines gas_total
+    counted-more o n g e f h = go (said_all rs) ∙ (rw (next, ← e) at so_far)
+      where
+        go : (rest : Option (List Op)) → counted (len + (n + 1)) (gas + g) rest ≡ counted len gas (one_more (some o) rest)
+        go none = refl
+        go (some os) =
+            let p : len + (n + 1) + length (op_lines os) ≡ len + length (printed (stack_op o) ++ (10 ∷ []) ++ op_lines os) = simp length-append (omega (arith, f)) in
+            let q : gas + g + gas_total os ≡ gas + (gas_of o + gas_total os) = omega (arith, h) in
+            rw (p, q) refl
+
+pub little : (o : Op) → gas_of o ≤ 6
+little (Swap k) = omega arith
+little (Dup k) = omega arith
+little Pop = omega arith
+little (Store id) = omega arith
+little (Load id) = omega arith
+
+-- ---- Line by line
+
+-- the lines of what records say, laid after what is there, give the whole
+pub record Still (lent : List ℕ) (at : ℕ) (whole now : List ℕ) (next : ℕ) (rs : List Record) : Type 0 where
+  pub ops : List Op
+  pub say : said_all rs ≡ some ops
+  pub gives : (left : List ℕ) (end : ℕ) → Lays now next (op_lines ops) left end → Lays lent at whole left end
+
+some-words : (ws : List ℕ) (os : List Op) → ops_in ws ≡ some os → said_all (records ws) ≡ some os
+unfolding ops_in said_all
+some-words [] os e = e
+some-words (k ∷ []) os e = absurd (none-ne-some os e)
+some-words (k ∷ a ∷ ws) os e = go (said k a) (ops_in ws) refl e (some-words ws)
+  where
+    go : (o : Option Op) (r : Option (List Op)) → ops_in ws ≡ r → one_more o r ≡ some os → ((os : List Op) → ops_in ws ≡ some os → said_all (records ws) ≡ some os)
+        → one_more o (said_all (records ws)) ≡ some os
+    go none r f h rest = absurd (none-ne-some os h)
+    go (some o) none f h rest = absurd (none-ne-some os h)
+    go (some o) (some os') f h rest = ap (one_more (some o)) (rest os' f) ∙ h
+
+pub lines-start : (ws lent : List ℕ) (at : ℕ) (os : List Op) → ops_in ws ≡ some os → Still lent at (op_lines os) lent at (records ws)
+lines-start ws lent at os e = record { ops = os; say = some-words ws os e; gives = λ left end h. h }
+
+module _ {lent : List ℕ} {at : ℕ} {whole now : List ℕ} {next : ℕ} {rs : List Record} (still : Still lent at whole now next rs) where
+  pub lines-end : rs ≡ [] → Lays lent at whole now next
+  unfolding said_all op_lines
+  lines-end e =
+      let z : [] ≡ still.ops = some-injective [] still.ops (rw e at still.say) in
+      still.gives now next (rw (← z) (none-laid now next))
+
+  module _ (r : Record) (rest : List Record) (e : rs ≡ r ∷ rest) where
+    pub no-line : none ≡ said r.kind r.argument → Still lent at whole now next rest
+    unfolding said_all
+    no-line f = absurd (none-ne-some still.ops (rw (e, ← f) at still.say))
+
+    pub one-line : (o : Op) (s : StackOps) (m : List ℕ) (i : ℕ) (m' : List ℕ) (i' : ℕ) → some o ≡ said r.kind r.argument → s ≡ stack_op o
+        → Lays now next (printed s) m i → Lays m i (10 ∷ []) m' i' → Still lent at whole m' i' rest
+    unfolding said_all op_lines
+    one-line o s m i m' i' f p first second = go (said_all rest) refl (rw (e, ← f) at still.say)
+      where
+        go : (q : Option (List Op)) → said_all rest ≡ q → one_more (some o) q ≡ some still.ops → Still lent at whole m' i' rest
+        go none g h = absurd (none-ne-some still.ops h)
+        go (some os) g h =
+            let z : o ∷ os ≡ still.ops = some-injective (o ∷ os) still.ops h in
+            record { ops = os; say = g; gives = λ left end k. still.gives left end (rw (← z, ← p) (then (then first second) k)) }

@@ -1,17 +1,18 @@
 // The lines that answer a job, as bytes in a lent buffer.
 #![tactic(auto)]
 
-ghost use Rattle.std.specs.Prelude.{◌≡◌, ◌+◌, ◌*◌, ◌≤◌, length};
-ghost use Rattle.scope.specs.Stack.{decimal, printed};
-ghost use Rattle.printing.specs.Promises.{Laid};
-ghost use Rattle.answer.specs.Promises.{said, said_of, is_some, line_of, gas_said, ops_in, all_some, lines_in, gas_in, Labelled, run_part, sums_part, head_line, writes, written_of};
+ghost use Rattle.std.specs.Prelude.{◌≡◌, ◌*◌, ◌≤◌, List, length, IfSome, Some};
+ghost use Rattle.scope.specs.declared.Op.{Op};
+ghost use Rattle.scope.specs.JobFile.{op_lines};
+ghost use Rattle.printing.specs.Promises.{Lays};
+ghost use Rattle.answer.specs.Promises.{said, ops_in, measured, first_line, writes, written_of};
 
-use operations::{gas_of, stack_op};
-use printing::{Printed, print_op, printed_len, put_bytes, put_decimal};
-use scope::{Op, StackOps};
+use printing::{Text, printed_len};
+use reader::Reader;
+use scope::Op;
 
-// The numbers of an answer, but for the count and the gas of the operations, which their words tell.
-#[derive(Clone, Copy)]
+/// The numbers of an answer, but for the count and the gas of the operations, which their words tell.
+#[derive(Clone, Copy, Debug, PartialEq, Eq)]
 pub struct Answer {
     pub code: u32,
     pub shrink_ticks: u32,
@@ -19,20 +20,13 @@ pub struct Answer {
     pub slots: u32,
 }
 
-// What writing an answer answers: how many bytes it wrote; or that they do not fit; or that the words are not whole operations, or
-// more than the driver lends. Refused, nothing was written.
-#[derive(Clone, Copy)]
-pub enum Written {
-    Wrote(usize),
+/// Why an answer is not written.
+#[derive(Clone, Copy, Debug, PartialEq, Eq)]
+pub enum Unwritten {
+    /// The lines do not fit.
     NoRoom,
+    /// The words are not whole operations, or more than the driver lends.
     NoOperations,
-}
-
-// The operation that two words say, if they say one.
-#[derive(Clone, Copy)]
-pub enum Said {
-    Is(Op),
-    Nothing,
 }
 
 // What the operations of a list of words come to: the bytes of their lines, and their gas.
@@ -42,223 +36,91 @@ struct Measured {
     gas: u64,
 }
 
-// The operation that a kind and an argument say; nothing for an unknown kind, a Pop with an argument, a depth that is no byte.
-pub fn read_op(kind: u32, argument: u32) -> Said
-    ensures { said_of result ≡ said kind argument }
+/// The operation that a kind and an argument say; none for an unknown kind, a Pop with an argument, a depth that is no byte.
+#[tactic(auto, unfolding(crate::specs::Promises::said))]
+pub fn read_op(kind: u32, argument: u32) -> Option<Op>
+    ensures { result ≡ said kind argument }
 {
-    if kind == 1 {
-        if argument <= 255 {
-            return Said::Is(Op::Swap(argument as u8));
-        }
-        return Said::Nothing;
-    }
-    if kind == 2 {
-        if argument <= 255 {
-            return Said::Is(Op::Dup(argument as u8));
-        }
-        return Said::Nothing;
-    }
-    if kind == 3 {
-        if argument == 0 {
-            return Said::Is(Op::Pop);
-        }
-        return Said::Nothing;
-    }
-    if kind == 4 {
-        return Said::Is(Op::Store(argument));
-    }
-    if kind == 5 {
-        return Said::Is(Op::Load(argument));
-    }
-    Said::Nothing
-}
-
-// Do two words say an operation?
-fn is_op(kind: u32, argument: u32) -> bool
-    ensures { result ≡ is_some (said kind argument) }
-{
-    match read_op(kind, argument) {
-        Said::Is(_) => true,
-        Said::Nothing => false,
+    match kind {
+        1 => Some(Op::Swap(u8::try_from(argument).ok()?)),
+        2 => Some(Op::Dup(u8::try_from(argument).ok()?)),
+        3 if argument == 0 => Some(Op::Pop),
+        4 => Some(Op::Store(argument)),
+        5 => Some(Op::Load(argument)),
+        _ => None,
     }
 }
 
-// How many bytes the line of two words has.
-fn line_len(kind: u32, argument: u32) -> usize
-    ensures { (result ≡ length (line_of (said kind argument))) × (result ≤ 54) }
-{
-    match read_op(kind, argument) {
-        Said::Is(op) => printed_len(stack_op(op)) + 1,
-        Said::Nothing => 0,
-    }
-}
-
-// The gas of two words.
-fn gas_said(kind: u32, argument: u32) -> u64
-    ensures { (result ≡ gas_said (said kind argument)) × (result ≤ 6) }
-{
-    match read_op(kind, argument) {
-        Said::Is(op) => gas_of(op),
-        Said::Nothing => 0,
-    }
-}
-
-// Do the words say operations, all of them?
-fn all_ops(words: &[u32]) -> bool
-    ensures { result ≡ all_some (ops_in words.now) }
-{
-    let mut i = 0;
-    while i < words.len() {
-        if words.len() - i < 2 {
-            return false;
-        }
-        if is_op(words[i], words[i + 1]) {
-            i += 2;
-        } else {
-            return false;
-        }
-    }
-    true
-}
-
-// The bytes and the gas of the operations that words say.
-fn measure(words: &[u32]) -> Measured
+// The bytes and the gas of the operations that words say; none where one record says none, or a word is left over.
+fn measure(words: &[u32]) -> Option<Measured>
     requires { length words.now ≤ 8192 }
-    ensures { (result.len ≡ length (lines_in words.now)) × (result.gas ≡ gas_in words.now)
-        × (result.len ≤ 27 * length words.now) × (result.gas ≤ 3 * length words.now) }
+    ensures all { result ≡ measured (ops_in words.now) }
+    ensures few { IfSome result (λ m. (m.len ≤ 54 * length words.now) × (m.gas ≤ 6 * length words.now)) }
 {
+    if words.len() % 2 != 0 {
+        return None;
+    }
     let mut len = 0;
     let mut gas = 0;
-    let mut i = 0;
-    while 1 < words.len() - i {
-        let kind = words[i];
-        let argument = words[i + 1];
-        len += line_len(kind, argument);
-        gas += gas_said(kind, argument);
-        i += 2;
+    for item in Reader::new(words) {
+        let op = read_op(item.kind, item.argument)?;
+        len += printed_len(op.into()) + 1;
+        gas += op.gas();
     }
-    Measured { len, gas }
+    Some(Measured { len, gas })
 }
 
-// Bytes into a buffer that has room for them; the place after them.
-fn put(out: &mut [u8], at: usize, bytes: &[u8]) -> usize
-    requires { at + length bytes.now ≤ length out.old }
-    ensures { Laid out.old at bytes.now out.new result }
+// The first line of an answer.
+fn put_first(text: &mut Text<'_>, answer: Answer, ops: u64, gas: u64)
+    ensures lays { Lays text.old.out.now text.old.len (first_line answer ops gas) text.new.out.now text.new.len }
+    ensures same { text.new.out.ghost_name ≡ text.old.out.ghost_name }
 {
-    match put_bytes(out, at, bytes) {
-        Printed::Wrote(len) => at + len,
-        Printed::NoRoom => at,
-    }
+    text.label(b"answer ", answer.code.into());
+    text.label(b" shrink ", answer.shrink_ticks.into());
+    text.label(b" grow ", answer.grow_ticks.into());
+    text.label(b" ops ", ops);
+    text.label(b" slots ", answer.slots.into());
+    text.label(b" gas ", gas);
+    text.put(b"\n");
 }
 
-// A number into a buffer that has room for it; the place after it.
-fn put_number(out: &mut [u8], at: usize, n: u64) -> usize
-    requires { at + length (decimal n) ≤ length out.old }
-    ensures { Laid out.old at (decimal n) out.new result }
+// A line for each operation that the words say.
+fn put_lines(text: &mut Text<'_>, words: &[u32])
+    ensures lays { (os : List Op) → ops_in words.now ≡ Some os
+        → Lays text.old.out.now text.old.len (op_lines os) text.new.out.now text.new.len }
+    ensures same { text.new.out.ghost_name ≡ text.old.out.ghost_name }
 {
-    match put_decimal(out, at, n) {
-        Printed::Wrote(len) => at + len,
-        Printed::NoRoom => at,
-    }
-}
-
-// An operation into a buffer that has room for it; the place after it.
-fn put_op(out: &mut [u8], at: usize, op: StackOps) -> usize
-    requires { at + length (printed op) ≤ length out.old }
-    ensures { Laid out.old at (printed op) out.new result }
-{
-    match print_op(out, at, op) {
-        Printed::Wrote(len) => at + len,
-        Printed::NoRoom => at,
-    }
-}
-
-// The line of two words into a buffer that has room for it; the place after it.
-fn put_line(out: &mut [u8], at: usize, kind: u32, argument: u32) -> usize
-    requires { at + length (line_of (said kind argument)) ≤ length out.old }
-    ensures { Laid out.old at (line_of (said kind argument)) out.new result }
-{
-    match read_op(kind, argument) {
-        Said::Is(op) => {
-            let end = put_op(out, at, stack_op(op));
-            put(out, end, b"\n")
+    for item in Reader::new(words) {
+        if let Some(op) = read_op(item.kind, item.argument) {
+            text.operation(op.into());
+            text.put(b"\n");
         }
-        Said::Nothing => at,
     }
 }
 
-// The lines of the operations that words say, into a buffer that has room for them; the place after them.
-fn put_lines(out: &mut [u8], at: usize, words: &[u32]) -> usize
-    requires { at + length (lines_in words.now) ≤ length out.old }
-    ensures { Laid out.old at (lines_in words.now) out.new result }
-{
-    let mut end = at;
-    let mut i = 0;
-    while 1 < words.len() - i {
-        end = put_line(out, end, words[i], words[i + 1]);
-        i += 2;
-    }
-    end
-}
-
-// A text and a number after it, with twenty places for the digits; the place after them.
-fn put_label(out: &mut [u8], at: usize, text: &[u8], n: u64) -> usize
-    requires { at + length text.now + 20 ≤ length out.old }
-    ensures { Labelled out.old at text.now n out.new result }
-{
-    let from = put(out, at, text);
-    put_number(out, from, n)
-}
-
-// How the run went, the first half of the first line; its length.
-fn put_run(out: &mut [u8], answer: Answer) -> usize
-    requires { 160 ≤ length out.old }
-    ensures { Laid out.old 0 (run_part answer) out.new result × (result ≤ 81) }
-{
-    let a = put_label(out, 0, b"answer ", answer.code as u64);
-    let b = put_label(out, a, b" shrink ", answer.shrink_ticks as u64);
-    put_label(out, b, b" grow ", answer.grow_ticks as u64)
-}
-
-// What it comes to, the second half; the place after it.
-fn put_sums(out: &mut [u8], at: usize, ops: u64, slots: u64, gas: u64) -> usize
-    requires { at + 78 ≤ length out.old }
-    ensures { Laid out.old at (sums_part ops slots gas) out.new result × (result ≤ at + 78) }
-{
-    let a = put_label(out, at, b" ops ", ops);
-    let b = put_label(out, a, b" slots ", slots);
-    let c = put_label(out, b, b" gas ", gas);
-    put(out, c, b"\n")
-}
-
-// The first line of an answer; its length.
-fn put_head(out: &mut [u8], answer: Answer, ops: u64, gas: u64) -> usize
-    requires { 160 ≤ length out.old }
-    ensures { Laid out.old 0 (head_line answer ops gas) out.new result × (result ≤ 160) }
-{
-    let half = put_run(out, answer);
-    put_sums(out, half, ops, answer.slots as u64, gas)
-}
-
-// The lines that answer a job, at the low end of a buffer, for the operations that the words say.
-pub fn write_answer(out: &mut [u8], answer: Answer, words: &[u32]) -> Written
+/// The lines that answer a job, at the low end of a buffer, for the operations that the words say; how many bytes they are.
+/// Where they are not written, the buffer is as it was.
+pub fn write_answer(out: &mut [u8], answer: Answer, words: &[u32]) -> Result<usize, Unwritten>
     ensures { written_of result out.new ≡ writes answer words.now out.old }
 {
-    let n = words.len();
-    if 8192 < n {
-        return Written::NoOperations;
+    if 8192 < words.len() {
+        return Err(Unwritten::NoOperations);
     }
-    if all_ops(words) {
-        let lines = measure(words);
-        let mut head = [0u8; 160];
-        let from = put_head(&mut head, answer, (n / 2) as u64, lines.gas);
-        let len = from + lines.len;
-        if out.len() < len {
-            return Written::NoRoom;
-        }
-        put(out, 0, &head[..from]);
-        put_lines(out, from, words);
-        return Written::Wrote(len);
+    let Some(lines) = measure(words) else {
+        return Err(Unwritten::NoOperations);
+    };
+    let mut bytes = [0; 160];
+    let mut first = Text {
+        out: &mut bytes,
+        len: 0,
+    };
+    put_first(&mut first, answer, words.len() as u64 / 2, lines.gas);
+    let head = first.len;
+    let mut text = Text { out, len: 0 };
+    if !text.fits(head + lines.len) {
+        return Err(Unwritten::NoRoom);
     }
-    Written::NoOperations
+    text.put(&bytes[..head]);
+    put_lines(&mut text, words);
+    Ok(text.len)
 }

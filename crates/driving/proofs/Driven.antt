@@ -1,15 +1,18 @@
 -- The driver's three calls, put together: what was read is the job, what the shuffle leaves is the result's, and its words are operations.
-use Prim.Native.Nat.{ℕ, zero, suc, ◌+◌, ◌*◌, ◌≤◌}
+use Prim.Native.Nat.{ℕ, zero, suc, ◌+◌, ◌*◌, ◌≤◌, min}
 use native.Mathlib.Omega.{arith}
 use mathlib.Core.Path.{◌≡◌, refl, sym, ap, ◌∙◌}
 use mathlib.Core.Bool.{Bool, true, false}
-use mathlib.Core.Option.{Option, none, some}
+use Rattle.std.proofs.Common.{Option, None as none, Some as some, Ok, Err}
 use mathlib.Core.List.{List, []}
 use lib.ListN.{length, take, drop, length-append, length-drop, length-take}
-use lib.Seq.{take_at, take-take, take-append_seam}
-use lib.Dec.{eqb, ltb}
-use borrow.Author.Tests.{ltb-false, le-leb}
+use lib.Seq.{take_at, take_all, take-take, take-append_seam}
+use lib.Dec.{eqb, ltb, leb}
+use borrow.Author.Tests.{ltb-false, le-leb, leb-true, leb-false}
 use Rattle.scope.specs.declared.Op.{Op}
+use Rattle.scope.specs.declared.Refusal.{Refusal}
+use Rattle.scope.specs.declared.Refusal.TheVariants as R
+use Rattle.scope.specs.Codes.{code, number_of}
 use Rattle.scope.specs.Words.{Stack, stack_of}
 use Rattle.scope.specs.Machine.{over, words_of}
 use Rattle.scope.specs.Rules.{Job}
@@ -21,31 +24,32 @@ use Rattle.scope.proofs.Branches.{tested}
 use Rattle.scope.proofs.Exact.{even-words}
 use Rattle.scope.proofs.Success.{shuffle-runs}
 use Rattle.operations.specs.declared.ScheduleConfig.{ScheduleConfig}
-use Rattle.job.specs.declared.JobRead.{JobRead}
+use Rattle.job.specs.declared.Job as J
+use Rattle.job.specs.declared.JobWords.{JobWords}
 use Rattle.job.specs.Promises.{Read, read_into, read_of}
 use Rattle.job.proofs.Reading.{is-a-job, length-words}
 use Rattle.shuffler.specs.declared.Answer as S
 use Rattle.shuffler.specs.Promises.{seen_in, lent_plain}
 use Rattle.answer.specs.Promises.{shallow, AllShallow, no-ops, one-op, writes}
 use Rattle.answer.proofs.Answered.{answers}
-use Rattle.driving.specs.Promises.{prints}
+use Rattle.driving.specs.Promises.{numbers, prints}
 
 -- ---- What was read
 
--- a job's lists, at the low ends of three buffers
-pub record Gave (f : JobFile) (r : JobRead) (x y z x₀ y₀ z₀ : List ℕ) : Type 0 where
-  pub starts : r.starts ≡ length f.start
-  pub spills : r.spills ≡ length f.spilled
-  pub targets : r.targets ≡ length f.target
-  pub first : r.first ≡ f.first
-  pub swaps : r.max_swap ≡ f.S
-  pub dups : r.max_dup ≡ f.D
-  pub start : x ≡ over f.start x₀
-  pub spilled : y ≡ over f.spilled y₀
-  pub target : z ≡ over f.target z₀
+-- a job's lists, at the low ends of three arrays
+pub record Gave (f : JobFile) (j : J.Job) (w : JobWords) (x₀ y₀ z₀ : List ℕ) : Type 0 where
+  pub starts : j.starts ≡ length f.start
+  pub spills : j.spills ≡ length f.spilled
+  pub targets : j.targets ≡ length f.target
+  pub first : j.first ≡ f.first
+  pub swaps : j.config.max_swap_depth ≡ f.S
+  pub dups : j.config.max_dup_depth ≡ f.D
+  pub start : w.start ≡ over f.start x₀
+  pub spilled : w.spilled ≡ over f.spilled y₀
+  pub target : w.target ≡ over f.target z₀
 
-given : (f : JobFile) (r : JobRead) (x y z x₀ y₀ z₀ : List ℕ) → read_of r x y z ≡ read_into (some f) x₀ y₀ z₀ → Gave f r x y z x₀ y₀ z₀
-given f r x y z x₀ y₀ z₀ h = record {
+given : (f : JobFile) (j : J.Job) (w : JobWords) (x₀ y₀ z₀ : List ℕ) → read_of (Ok j) w ≡ read_into (some f) x₀ y₀ z₀ → Gave f j w x₀ y₀ z₀
+given f j w x₀ y₀ z₀ h = record {
   starts = ap (λ (q : Read). q.starts) h;
   spills = ap (λ (q : Read). q.spills) h;
   targets = ap (λ (q : Read). q.targets) h;
@@ -59,9 +63,7 @@ given f r x y z x₀ y₀ z₀ h = record {
 
 -- the job that bytes are, and its bounds
 pub record Bounded (f : JobFile) : Type 0 where
-  pub starts : length f.start ≤ 4096
   pub spills : length f.spilled ≤ 4096
-  pub targets : length f.target ≤ 4096
   pub swaps : f.S ≤ 255
   pub dups : f.D ≤ 255
 
@@ -70,54 +72,64 @@ unfolding read_job
 bounded bs t =
     let h = is-a-job bs (is_job bs) refl t in
     record {
-      starts = rw (length-words bs 36 (word_at bs 0)) (omega (arith, h.small, h.end-at));
       spills = rw (length-words bs (36 + 4 * word_at bs 0) (word_at bs 8)) (omega (arith, h.small, h.end-at));
-      targets = rw (length-words bs (36 + 4 * word_at bs 0 + 4 * word_at bs 8) (word_at bs 16)) (omega (arith, h.small, h.end-at));
       swaps = h.swaps;
       dups = h.dups;
     }
 
-module _ (bs : List ℕ) (r : JobRead) (x y z x₀ y₀ z₀ : List ℕ) (h : read_of r x y z ≡ read_into (parsed bs) x₀ y₀ z₀) where
-  pub read-it : r.code ≡ 0 → (f : JobFile) × (parsed bs ≡ some f) × Bounded f × Gave f r x y z x₀ y₀ z₀
-  unfolding parsed
-  read-it c = go (is_job bs) refl
-    where
-      go : (b : Bool) → is_job bs ≡ b → (f : JobFile) × (parsed bs ≡ some f) × Bounded f × Gave f r x y z x₀ y₀ z₀
-      go true e =
-          let p : parsed bs ≡ some (read_job bs) = rw e in
-          (read_job bs, p, bounded bs e, given (read_job bs) r x y z x₀ y₀ z₀ (h ∙ ap (λ (o : Option JobFile). read_into o x₀ y₀ z₀) p))
-      go false e =
-          let p : parsed bs ≡ none = rw e in
-          let q : read_of r x y z ≡ read_into none x₀ y₀ z₀ = h ∙ ap (λ (o : Option JobFile). read_into o x₀ y₀ z₀) p in
-          absurd (omega (arith, c, ap (λ (q : Read). q.code) q))
+-- a refusal has a code
+refuses : (r : Refusal) → number_of r ≡ 0 → ⊥
+refuses R.Limit e = omega arith
+refuses R.Start e = omega arith
+refuses R.Target e = omega arith
+refuses R.Filled e = omega arith
+refuses R.Slots e = omega arith
+refuses R.Missing e = omega arith
+refuses R.Full e = omega arith
+refuses R.Stuck e = omega arith
+refuses R.Ticks e = omega arith
+refuses R.Spill e = omega arith
+refuses R.Ops e = omega arith
+refuses R.Inside e = omega arith
+refuses R.Job e = omega arith
+refuses R.Empty e = omega arith
+refuses R.Outside e = omega arith
+refuses R.Unfilled e = omega arith
+refuses R.SwapOfZero e = omega arith
 
-  pub read_none : (r.code ≡ 0 → ⊥) → (parsed bs ≡ none) × (r.code ≡ 13)
+module _ (bs : List ℕ) (w : JobWords) (x₀ y₀ z₀ : List ℕ) where
+  pub read-it : (j : J.Job) → read_of (Ok j) w ≡ read_into (parsed bs) x₀ y₀ z₀ → (f : JobFile) × (parsed bs ≡ some f) × Bounded f × Gave f j w x₀ y₀ z₀
   unfolding parsed
-  read_none c = go (is_job bs) refl
+  read-it j h = go (is_job bs) refl
     where
-      go : (b : Bool) → is_job bs ≡ b → (parsed bs ≡ none) × (r.code ≡ 13)
+      go : (b : Bool) → is_job bs ≡ b → (f : JobFile) × (parsed bs ≡ some f) × Bounded f × Gave f j w x₀ y₀ z₀
       go true e =
           let p : parsed bs ≡ some (read_job bs) = rw e in
-          let q : read_of r x y z ≡ read_into (some (read_job bs)) x₀ y₀ z₀ = h ∙ ap (λ (o : Option JobFile). read_into o x₀ y₀ z₀) p in
-          absurd (c (ap (λ (q : Read). q.code) q))
+          (read_job bs, p, bounded bs e, given (read_job bs) j w x₀ y₀ z₀ (h ∙ ap (λ (o : Option JobFile). read_into o x₀ y₀ z₀) p))
       go false e =
           let p : parsed bs ≡ none = rw e in
-          let q : read_of r x y z ≡ read_into none x₀ y₀ z₀ = h ∙ ap (λ (o : Option JobFile). read_into o x₀ y₀ z₀) p in
+          let q : read_of (Ok j) w ≡ read_into none x₀ y₀ z₀ = h ∙ ap (λ (o : Option JobFile). read_into o x₀ y₀ z₀) p in
+          absurd (omega (arith, ap (λ (q : Read). q.code) q))
+
+  read_none : (r : Refusal) → read_of (Err r) w ≡ read_into (parsed bs) x₀ y₀ z₀ → (parsed bs ≡ none) × (number_of r ≡ 13)
+  unfolding parsed
+  read_none r h = go (is_job bs) refl
+    where
+      go : (b : Bool) → is_job bs ≡ b → (parsed bs ≡ none) × (number_of r ≡ 13)
+      go true e =
+          let p : parsed bs ≡ some (read_job bs) = rw e in
+          let q : read_of (Err r) w ≡ read_into (some (read_job bs)) x₀ y₀ z₀ = h ∙ ap (λ (o : Option JobFile). read_into o x₀ y₀ z₀) p in
+          absurd (refuses r (ap (λ (q : Read). q.code) q))
+      go false e =
+          let p : parsed bs ≡ none = rw e in
+          let q : read_of (Err r) w ≡ read_into none x₀ y₀ z₀ = h ∙ ap (λ (o : Option JobFile). read_into o x₀ y₀ z₀) p in
           (p, ap (λ (q : Read). q.code) q)
 
 longer : (new lent : List ℕ) → length new ≤ length (over new lent)
 longer new lent = omega (arith, length-append new (drop (length new) lent))
 
-pub length_over : (new lent : List ℕ) → length new ≤ length lent → length (over new lent) ≡ length lent
+length_over : (new lent : List ℕ) → length new ≤ length lent → length (over new lent) ≡ length lent
 length_over new lent h = omega (arith, length-append new (drop (length new) lent), length-drop (length new) lent)
-
-module _ {f : JobFile} {r : JobRead} {x y z x₀ y₀ z₀ : List ℕ} (g : Gave f r x y z x₀ y₀ z₀) where
-  slots-in : Bounded f → length y₀ ≡ 4096 → 2048 ≤ length y
-  slots-in b l = rw g.spilled (omega (arith, length_over f.spilled y₀ (omega (arith, b.spills))))
-
-module _ (bs : List ℕ) (r : JobRead) (x y z x₀ y₀ z₀ : List ℕ) (h : read_of r x y z ≡ read_into (parsed bs) x₀ y₀ z₀) (c : r.code ≡ 0) where
-  pub slots-fit : length y₀ ≡ 4096 → 2048 ≤ length y
-  slots-fit = let q = read-it bs r x y z x₀ y₀ z₀ h c in slots-in q.3 q.2
 
 -- ---- Every depth that a shuffle writes is a byte
 
@@ -164,7 +176,7 @@ room_for j b e =
 
 -- an answer and the two buffers are those of a result
 pub record Left (R : Result) (a : S.Answer) (slots₀ sp words₀ ws : List ℕ) : Type 0 where
-  pub code : a.code ≡ R.code
+  pub code : code a.outcome ≡ R.code
   pub shrink : a.shrink_ticks ≡ R.shrink_ticks
   pub grow : a.grow_ticks ≡ R.grow_ticks
   pub ops : a.ops ≡ length R.ops
@@ -204,44 +216,50 @@ module _ (f : JobFile) (config : ScheduleConfig) (y₀ words : List ℕ) where
       let p : shuffle (job_lent lent) (start_lent lent) ≡ result_of (some f) = ap (λ (i : Job). shuffle i (start_lent lent)) j ∙ q in
       ap (λ (R : Result). seen_of R lent) p
 
+pub same-part : (l : List ℕ) (n m : ℕ) → length l ≡ 4096 → m ≡ min n 4096 → take m l ≡ take n l
+same-part l n m e f = go (leb n 4096) refl
+  where
+    go : (t : Bool) → leb n 4096 ≡ t → take m l ≡ take n l
+    go true h = let k : m ≡ n = omega (arith, leb-true n 4096 h) in ap (λ (i : ℕ). take i l) k
+    go false h = let k = leb-false n 4096 h in take_all m l (omega arith) ∙ sym (take_all n l (omega arith))
+
 -- the whole of it, from what reading and the shuffle promise
-module _ (bs : List ℕ) (r : JobRead) (x y z x₀ y₀ z₀ : List ℕ) (l : length y₀ ≡ 4096)
-    (config : ScheduleConfig) (s : config.max_swap_depth ≡ r.max_swap) (d : config.max_dup_depth ≡ r.max_dup)
-    (words : List ℕ) (w : length words ≡ 8192) (a : S.Answer) (sp ws : List ℕ)
-    (e : seen_in a sp ws ≡ shuffle_due (lent_plain (take r.starts x) (take 2048 y) r.spills r.first (take r.targets z) config words)) where
-  left_by : (f : JobFile) → Bounded f → Gave f r x y z x₀ y₀ z₀ → Left (result_of (some f)) a (take 2048 y) sp words ws
+module _ (bs : List ℕ) (j : J.Job) (w : JobWords) (x₀ y₀ z₀ : List ℕ) (h : read_of (Ok j) w ≡ read_into (parsed bs) x₀ y₀ z₀) (l : length y₀ ≡ 4096)
+    (words : List ℕ) (room : length words ≡ 8192) (a : S.Answer) (sp ws : List ℕ) (few : length sp ≤ 2048)
+    (e : seen_in a sp ws ≡ shuffle_due (lent_plain (take j.starts w.start) (take 2048 w.spilled) j.spills j.first (take j.targets w.target) j.config words)) where
+  left_by : (f : JobFile) → Bounded f → Gave f j w x₀ y₀ z₀ → Left (result_of (some f)) a (take 2048 w.spilled) sp words ws
   unfolding lent
   left_by f b g =
-      let i : take r.starts x ≡ f.start = ap (take r.starts) g.start ∙ take_at f.start _ r.starts (sym g.starts) in
-      let k : take r.targets z ≡ f.target = ap (take r.targets) g.target ∙ take_at f.target _ r.targets (sym g.targets) in
-      let due : lent_plain (take r.starts x) (take 2048 y) r.spills r.first (take r.targets z) config words ≡ lent f config y₀ words
+      let i : take j.starts w.start ≡ f.start = ap (take j.starts) g.start ∙ take_at f.start _ j.starts (sym g.starts) in
+      let k : take j.targets w.target ≡ f.target = ap (take j.targets) g.target ∙ take_at f.target _ j.targets (sym g.targets) in
+      let due : lent_plain (take j.starts w.start) (take 2048 w.spilled) j.spills j.first (take j.targets w.target) j.config words ≡ lent f j.config y₀ words
       = rw (i, k, g.spilled, g.spills, g.first) in
       rw g.spilled
-      (seen-left (result_of (some f)) (lent f config y₀ words) a sp ws refl
-      (e ∙ ap shuffle_due due ∙ the_result f config y₀ words (s ∙ g.swaps) (d ∙ g.dups) b.spills l w))
+      (seen-left (result_of (some f)) (lent f j.config y₀ words) a sp ws refl
+      (e ∙ ap shuffle_due due ∙ the_result f j.config y₀ words g.swaps g.dups b.spills l room))
 
-  answered-by : (f : JobFile) → parsed bs ≡ some f → Bounded f → Left (result_of (some f)) a (take 2048 y) sp words ws → (out : List ℕ) → a.ops ≤ 4096
-      → writes (record { code = a.code; shrink_ticks = a.shrink_ticks; grow_ticks = a.grow_ticks; slots = a.slots }) (take (2 * a.ops) ws) out ≡ prints bs out
+  pub ops-fit : 2 * a.ops ≤ length ws
+  ops-fit = let q = read-it bs w x₀ y₀ z₀ j h in words-fit (left_by q.0 q.2 q.3)
+
+  answered-by : (f : JobFile) → parsed bs ≡ some f → Bounded f → Left (result_of (some f)) a (take 2048 w.spilled) sp words ws → (out : List ℕ) → a.ops ≤ 4096
+      → writes (numbers a) (take (2 * a.ops) ws) out ≡ prints bs out
   unfolding driver_prints
   answered-by f p b q out n =
       let R = result_of (some f) in
       let t : take (2 * a.ops) ws ≡ words_of R.ops
       = ap (take (2 * a.ops)) q.words ∙ take_at (words_of R.ops) _ (2 * a.ops) (omega (arith, even-words R.ops, q.ops)) in
       rw (t, p)
-      (answers _ R out (record { code = q.code; shrink = q.shrink; grow = q.grow; slots = q.slots })
+      (answers _ R out (record { code = q.code; shrink = q.shrink; grow = q.grow; slots = omega (arith, q.slots, slots-are q, few) })
       (shallow-shuffle (job_of f) f.start f.spilled b.swaps b.dups) (omega (arith, q.ops)))
 
-  module _ (h : read_of r x y z ≡ read_into (parsed bs) x₀ y₀ z₀) (c : r.code ≡ 0) where
-    pub is-left : (R : Result) × Left R a (take 2048 y) sp words ws
-    is-left = let q = read-it bs r x y z x₀ y₀ z₀ h c in (result_of (some q.0), left_by q.0 q.2 q.3)
+  pub answered : (out : List ℕ) → length ws ≡ 8192 → writes (numbers a) (take (2 * a.ops) ws) out ≡ prints bs out
+  answered out n =
+      let q = read-it bs w x₀ y₀ z₀ j h in
+      answered-by q.0 q.1 q.2 (left_by q.0 q.2 q.3) out (omega (arith, ops-fit))
 
-    pub answered : (out : List ℕ) → a.ops ≤ 4096
-        → writes (record { code = a.code; shrink_ticks = a.shrink_ticks; grow_ticks = a.grow_ticks; slots = a.slots }) (take (2 * a.ops) ws) out ≡ prints bs out
-    answered = let q = read-it bs r x y z x₀ y₀ z₀ h c in answered-by q.0 q.1 q.2 (left_by q.0 q.2 q.3)
-
-pub no-job : (bs : List ℕ) (r : JobRead) (x y z x₀ y₀ z₀ : List ℕ) → read_of r x y z ≡ read_into (parsed bs) x₀ y₀ z₀ → (r.code ≡ 0 → ⊥) → (out words : List ℕ) → words ≡ []
-    → writes (record { code = r.code; shrink_ticks = 0; grow_ticks = 0; slots = 0 }) words out ≡ prints bs out
+pub no-job : (bs : List ℕ) (w : JobWords) (x₀ y₀ z₀ : List ℕ) (r : Refusal) → read_of (Err r) w ≡ read_into (parsed bs) x₀ y₀ z₀ → (out words : List ℕ) → words ≡ []
+    → writes (record { code = number_of r; shrink_ticks = 0; grow_ticks = 0; slots = 0 }) words out ≡ prints bs out
 unfolding driver_prints words_of
-no-job bs r x y z x₀ y₀ z₀ h c out words w =
-    let (p, q) = read_none bs r x y z x₀ y₀ z₀ h c in
-    rw (p, w) (answers _ (result_of none) out (record { code = q; shrink = refl; grow = refl; slots = refl }) no-ops (omega arith))
+no-job bs w x₀ y₀ z₀ r h out words e =
+    let (p, q) = read_none bs w x₀ y₀ z₀ r h in
+    rw (p, e) (answers _ (result_of none) out (record { code = q; shrink = refl; grow = refl; slots = refl }) no-ops (omega arith))

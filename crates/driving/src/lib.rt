@@ -3,52 +3,64 @@
 
 ghost use Rattle.std.specs.Prelude.{◌≡◌};
 ghost use Rattle.answer.specs.Promises.{written_of};
-ghost use Rattle.driving.specs.Promises.{prints};
+ghost use Rattle.driving.specs.Promises.{numbers, Runs, prints};
 
-use answer::{Answer, Written, write_answer};
-use job::read_job;
-use operations::ScheduleConfig;
+use answer::{Answer, Unwritten, write_answer};
+use job::{Job, JobWords, read_job};
 use shuffler::shuffle;
 
-// The lines that answer a job's bytes, at the low end of a buffer. The shuffle is lent 2,048 slots, which are the low words of the spill
-// list's own buffer, so that a list longer than they are is counted and refused, and room for 4,096 operations.
-pub fn answer_job(bytes: &[u8], out: &mut [u8]) -> Written
+/// What the driver's lines say of a shuffle's answer; slots past 32 bits are counted as the last number.
+pub fn numbers_of(run: &shuffler::Answer) -> Answer
+    ensures { result ≡ numbers run.now }
+{
+    Answer {
+        code: match run.outcome {
+            Ok(()) => 0,
+            Err(refusal) => refusal.code(),
+        },
+        shrink_ticks: run.shrink_ticks,
+        grow_ticks: run.grow_ticks,
+        slots: u32::try_from(run.slots).unwrap_or(u32::MAX),
+    }
+}
+
+/// The shuffle of a job. It is lent 2,048 slots, in which the low words of the spill list's array stand, so that a list longer than they
+/// are is counted and refused, and room for 4,096 operations. A count past an array's end stands for the whole array.
+pub fn run_job(job: &Job, lists: &JobWords, words: &mut [u32; 8192]) -> shuffler::Answer
+    ensures { Runs job.now lists.now words.old result words.new }
+{
+    let mut slots = [0; 2048];
+    slots.copy_from_slice(&lists.spilled[..2048]);
+    shuffle(
+        &lists.start[..job.starts.min(4096)],
+        &mut slots,
+        job.spills,
+        job.first,
+        &lists.target[..job.targets.min(4096)],
+        job.config,
+        words,
+    )
+}
+
+/// The lines that answer a job's bytes, at the low end of a buffer; how many bytes they are.
+pub fn answer_job(bytes: &[u8], out: &mut [u8]) -> Result<usize, Unwritten>
     ensures { written_of result out.new ≡ prints bytes.now out.old }
 {
-    let mut start = [0u32; 4096];
-    let mut spilled = [0u32; 4096];
-    let mut target = [0u32; 4096];
-    let mut words = [0u32; 8192];
-    let read = read_job(bytes, &mut start, &mut spilled, &mut target);
-    if read.code != 0 {
-        let none = Answer {
-            code: read.code,
-            shrink_ticks: 0,
-            grow_ticks: 0,
-            slots: 0,
-        };
-        return write_answer(out, none, &words[..0]);
+    let mut lists = JobWords::new();
+    let mut words = [0; 8192];
+    match read_job(bytes, &mut lists) {
+        Ok(job) => {
+            let run = run_job(&job, &lists, &mut words);
+            write_answer(out, numbers_of(&run), &words[..2 * run.ops])
+        }
+        Err(refusal) => {
+            let none = Answer {
+                code: refusal.code(),
+                shrink_ticks: 0,
+                grow_ticks: 0,
+                slots: 0,
+            };
+            write_answer(out, none, &[])
+        }
     }
-    let config = ScheduleConfig {
-        max_swap_depth: read.max_swap,
-        max_dup_depth: read.max_dup,
-        max_exchange_range: 0,
-        exchange_cost: 0,
-    };
-    let a = shuffle(
-        &start[..read.starts],
-        &mut spilled[..2048],
-        read.spills,
-        read.first,
-        &target[..read.targets],
-        config,
-        &mut words,
-    );
-    let answer = Answer {
-        code: a.code,
-        shrink_ticks: a.shrink_ticks,
-        grow_ticks: a.grow_ticks,
-        slots: a.slots as u32,
-    };
-    write_answer(out, answer, &words[..2 * a.ops])
 }

@@ -10,7 +10,7 @@ use std::process::ExitCode;
 use std::rt::Files;
 use std::{fs, str};
 
-// Reads until the buffer is full or the reader ends; how many bytes came, at the buffer's low end.
+/// Reads until the buffer is full or the reader ends; how many bytes came, at the buffer's low end.
 pub fn read_full<R: Read>(reader: &mut R, bytes: &mut [u8]) -> io::Result<usize>
     ensures within { IfOk result (λ n. n ≤ length bytes.new) }
     ensures read { IfOk result (λ n. Consumes (R.remaining reader.old) (R.remaining reader.new) (take n bytes.new)) }
@@ -27,7 +27,7 @@ pub fn read_full<R: Read>(reader: &mut R, bytes: &mut [u8]) -> io::Result<usize>
     Ok(filled)
 }
 
-// The files of a run, and whether one of them could not be opened.
+/// The files of a run, and whether one of them could not be opened.
 #[derive(Drop)]
 pub struct Inputs<'a, R> {
     rt: &'a R,
@@ -35,13 +35,14 @@ pub struct Inputs<'a, R> {
 }
 
 impl<'a, R: Files + Eprint> Inputs<'a, R> {
-    pub fn new(rt: &'a R) -> Inputs<'a, R>
+    /// No file is missing yet.
+    pub fn new(rt: &'a R) -> Self
         ensures { result.missing ≡ false }
     {
         Inputs { rt, missing: false }
     }
 
-    // The file, or nothing where it cannot be opened. Then a line on standard error has its name and what the system says.
+    /// The file, or nothing where it cannot be opened. Then a line on standard error has its name and what the system says.
     pub fn open(&mut self, path: &str) -> Option<R::File>
         ensures named { IfNone result (self.new.missing ≡ true) }
         ensures kept { self.old.missing ≡ true → self.new.missing ≡ true }
@@ -63,7 +64,7 @@ impl<'a, R: Files + Eprint> Inputs<'a, R> {
         }
     }
 
-    // The status to end with: 1 where a file could not be opened.
+    /// The status to end with: 1 where a file could not be opened.
     pub fn status(&self) -> ExitCode
         ensures missing { self.now.missing ≡ true → exit_status result ≡ 1 }
         ensures found { self.now.missing ≡ false → exit_status result ≡ 0 }
@@ -78,8 +79,5 @@ impl<'a, R: Files + Eprint> Inputs<'a, R> {
 
 // A text up to where a mark begins in it, all of it where there is none.
 fn before<'a>(text: &'a str, mark: &str) -> &'a str {
-    match text.split_once(mark) {
-        Some((front, _)) => front,
-        None => text,
-    }
+    text.split_once(mark).map_or(text, |(front, _)| front)
 }

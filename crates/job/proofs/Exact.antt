@@ -4,7 +4,8 @@ use native.Mathlib.Omega.{arith}
 use native.Mathlib.Nat.{add-zero, add_assoc, div-eq_of_lt-le, div-add-mod, div-div-eq-div-mul, mod-eq_of_lt}
 use mathlib.Core.Path.{◌≡◌, refl, sym, ap, ◌∙◌}
 use mathlib.Core.Bool.{Bool, true, false}
-use mathlib.Core.Option.{some, none-ne-some, some-injective}
+use Rattle.std.proofs.Common.{Some as some}
+use Rattle.std.proofs.lemmas.Option.{none-some as none-ne-some, same_Some as some-injective}
 use mathlib.Core.List.{List, [], ◌∷◌, ◌++◌, append_assoc, append-nil}
 use mathlib.Core.Logic.{◌↔◌}
 use lib.ListN.{length, get_or, drop, length-append, drop_of_length-le}

@@ -12,6 +12,8 @@ use lib.Dec.{leb}
 use borrow.Author.Tests.{le-leb, leb-true, eq-eqb, eqb-true}
 use Rattle.scope.specs.Machine.{over}
 use Rattle.scope.specs.JobFile.{word_at, words_at, is_job, read_job, parsed, spilled_at, target_at, end_at}
+use Rattle.std.proofs.Common.{Ok}
+use Rattle.job.specs.declared.JobWords.{JobWords}
 use Rattle.job.specs.Promises.{read_into, read_of}
 
 -- ---- Is it a job?
@@ -108,11 +110,11 @@ is-a-job bs b e t =
 
 -- ---- What reading answers
 
-module _ (bs x y z : List ℕ) (flag : Bool) (asked : flag ≡ is_job bs) where
-  pub read_some : flag ≡ true → (a b c f s d : ℕ) (x' y' z' : List ℕ)
-      → a ≡ word_at bs 0 → b ≡ word_at bs 8 → c ≡ word_at bs 16 → f ≡ word_at bs 24 → s ≡ word_at bs 28 → d ≡ word_at bs 32
-      → x' ≡ over (words_at bs 36 a) x → y' ≡ over (words_at bs (36 + 4 * a) b) y → z' ≡ over (words_at bs (36 + 4 * a + 4 * b) c) z
-      → read_of (record { code = 0; starts = a; spills = b; targets = c; first = f; max_swap = s; max_dup = d }) x' y' z' ≡ read_into (parsed bs) x y z
+module _ (bs : List ℕ) (w w' : JobWords) (flag : Bool) (asked : flag ≡ is_job bs) where
+  pub read_some : flag ≡ true → (a b c s d f : ℕ)
+      → a ≡ word_at bs 0 → b ≡ word_at bs 8 → c ≡ word_at bs 16 → s ≡ word_at bs 28 → d ≡ word_at bs 32 → f ≡ word_at bs 24
+      → w'.start ≡ over (words_at bs 36 a) w.start → w'.spilled ≡ over (words_at bs (36 + 4 * a) b) w.spilled → w'.target ≡ over (words_at bs (36 + 4 * a + 4 * b) c) w.target
+      → read_of (Ok (record { starts = a; spills = b; targets = c; first = f; config = record { max_swap_depth = s; max_dup_depth = d; max_exchange_range = 0; exchange_cost = 0 } })) w' ≡ read_into (parsed bs) w.start w.spilled w.target
   unfolding parsed read_job
-  read_some h a b c f s d x' y' z' ea eb ec ef es ed ex ey ez =
+  read_some h a b c s d f ea eb ec es ed ef ex ey ez =
       rw (← asked, h, ex, ey, ez, ea, eb, ec, ef, es, ed) (simp length-words)

@@ -1,10 +1,12 @@
 -- What reading a job answers: which field and which buffer is which of scope's.
-use Rattle.std.specs.Prelude.{ℕ, ◌≤◌, List, length, get_or}
-use Rattle.std.proofs.Math.Option.{Option, none, some}
-use Rattle.scope.specs.Codes.{DONE, JOB}
+use Rattle.std.specs.Prelude.{ℕ, ◌≤◌, List, length, get_or, Result, Ok, Err}
+use Rattle.std.specs.Prelude.{Option, None as none, Some as some}
+use Rattle.scope.specs.declared.Refusal.{Refusal}
+use Rattle.scope.specs.Codes.{DONE, JOB, number_of}
 use Rattle.scope.specs.Machine.{over}
 use Rattle.scope.specs.JobFile.{JobFile}
-use Rattle.job.specs.declared.JobRead.{JobRead}
+use Rattle.job.specs.declared.Job.{Job}
+use Rattle.job.specs.declared.JobWords.{JobWords}
 
 -- the code, the length of each list, the numbers, and every word of the three buffers
 pub record Read : Type 0 where
@@ -35,19 +37,31 @@ read_into (some f) x y z = record {
   target = over f.target z;
 }
 
--- an answer, with the buffers as they are then
-abbrev pub read_of : JobRead → List ℕ → List ℕ → List ℕ → Read
-read_of r x y z = record {
-  code = r.code;
+-- an answer, with the arrays as they are then; a refusal has zeros
+abbrev pub read_of : Result Job Refusal → JobWords → Read
+read_of (Ok r) w = record {
+  code = DONE;
   starts = r.starts;
   spills = r.spills;
   targets = r.targets;
   first = r.first;
-  S = r.max_swap;
-  D = r.max_dup;
-  start = x;
-  spilled = y;
-  target = z;
+  S = r.config.max_swap_depth;
+  D = r.config.max_dup_depth;
+  start = w.start;
+  spilled = w.spilled;
+  target = w.target;
+}
+read_of (Err r) w = record {
+  code = number_of r;
+  starts = 0;
+  spills = 0;
+  targets = 0;
+  first = 0;
+  S = 0;
+  D = 0;
+  start = w.start;
+  spilled = w.spilled;
+  target = w.target;
 }
 
 -- every byte is one: so it is of any slice of them

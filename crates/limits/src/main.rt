@@ -1,4 +1,4 @@
-// Runs each call of the stacks on both sides of each of its limits, and writes a line for each trial: what was asked, and the whole answer.
+//! Runs each call of the stacks on both sides of each of its limits. A line for each trial says what was asked, and the whole answer.
 #![tactic(auto)]
 
 use std::io;

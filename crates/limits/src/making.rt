@@ -1,189 +1,192 @@
 // Making a tracked state, copying one, and what can be asked of one without changing it. The spill buffer is 70 71 72.
-use super::show::{asked_of, count_up, list, made, size, state_of, text, word, word_or_nothing};
+use super::show::{asked_of, code, count_up, found, list, made, state_of};
 use std::io::{self, Write};
 use tracked_state::TrackedState;
 
 fn new_from_evm(out: &mut impl Write, height: u16, first: u32) -> io::Result<()> {
-    let spill = [70u32, 71, 72];
-    let t = state_of(height, first, 0, 0);
-    let stack = t.stack;
-    text(out, "new_from_evm")?;
-    asked_of(out, t)?;
-    made(out, t, TrackedState::new_from_evm(first, stack, &spill))?;
-    text(out, "\n")
+    let given = state_of(height, first, 0, 0);
+    write!(out, "new_from_evm")?;
+    asked_of(out, &given)?;
+    let answer = TrackedState::new_from_evm(first, given.stack, &[70, 71, 72]);
+    made(out, &given, answer)?;
+    writeln!(out)
 }
 
-// The same with a spill buffer of no words.
+/// The same with a spill buffer of no words.
 fn new_from_evm_no_slots(out: &mut impl Write, height: u16, first: u32) -> io::Result<()> {
-    let spill = [70u32];
-    let t = state_of(height, first, 0, 0);
-    let stack = t.stack;
-    text(out, "new_from_evm with no slots")?;
-    asked_of(out, t)?;
+    let given = state_of(height, first, 0, 0);
+    write!(out, "new_from_evm with no slots")?;
+    asked_of(out, &given)?;
     made(
         out,
-        t,
-        TrackedState::new_from_evm(first, stack, &spill[..0]),
+        &given,
+        TrackedState::new_from_evm(first, given.stack, &[]),
     )?;
-    text(out, "\n")
+    writeln!(out)
 }
 
 fn new_from_parts(out: &mut impl Write, n: usize, first: u32, filled: usize) -> io::Result<()> {
     let mut values = [0u32; 1025];
     count_up(&mut values);
-    let spill = [70u32, 71, 72];
-    let part = tracked::underlying_spilled(&values, n);
-    let m = TrackedState::new_from_parts(first, part, filled, &spill);
-    size(out, "new_from_parts of ", n)?;
-    word(out, ", first ", first)?;
-    size(out, ", filled ", filled)?;
-    made(out, state_of(0, 0, 0, 0), m)?;
-    text(out, "\n")
+    let part = &values[..n.min(1025)];
+    let answer = TrackedState::new_from_parts(first, part, filled, &[70, 71, 72]);
+    write!(out, "new_from_parts of {n}, first {first}, filled {filled}")?;
+    made(out, &state_of(0, 0, 0, 0), answer)?;
+    writeln!(out)
 }
 
-// Into a second buffer of three words.
-fn clone_with(out: &mut impl Write, height: u16, first: u32, filled: usize) -> io::Result<()> {
-    let t = state_of(height, first, filled, 2);
-    let spill = [70u32, 71, 72, 73];
-    let mut other = [80u32, 81, 82];
-    text(out, "clone_with 4 to 3 slots")?;
-    asked_of(out, t)?;
-    made(out, t, t.clone_with(&spill, &mut other))?;
-    text(out, ", slots")?;
-    list(out, &spill)?;
-    text(out, ", others")?;
+/// From these slots into a second buffer of three words.
+fn clone_with(out: &mut impl Write, given: &TrackedState, spill: &[u32]) -> io::Result<()> {
+    let mut other = [80, 81, 82];
+    write!(out, "clone_with {} to 3 slots", spill.len())?;
+    asked_of(out, given)?;
+    let answer = given.clone_with(spill, &mut other);
+    made(out, given, answer)?;
+    write!(out, ", slots")?;
+    list(out, spill)?;
+    write!(out, ", others")?;
     list(out, &other)?;
-    text(out, "\n")
+    writeln!(out)
 }
 
-// Into a second buffer that is longer than the first.
-fn clone_longer(out: &mut impl Write, height: u16, first: u32, filled: usize) -> io::Result<()> {
-    let t = state_of(height, first, filled, 2);
-    let spill = [70u32, 71];
-    let mut other = [80u32, 81, 82];
-    text(out, "clone_with 2 to 3 slots")?;
-    asked_of(out, t)?;
-    made(out, t, t.clone_with(&spill, &mut other))?;
-    text(out, ", slots")?;
-    list(out, &spill)?;
-    text(out, ", others")?;
-    list(out, &other)?;
-    text(out, "\n")
-}
-
-// The buffer is 70 71 70 72.
+/// The buffer is 70 71 70 72.
 fn get_spilled(out: &mut impl Write, first: u32, filled: usize, target: u32) -> io::Result<()> {
-    let spill = [70u32, 71, 70, 72];
-    let t = state_of(1, first, filled, 0);
-    word(out, "get_spilled ", target)?;
-    asked_of(out, t)?;
-    word_or_nothing(out, t.get_spilled(&spill, target))?;
-    text(out, "\n")
+    let state = state_of(1, first, filled, 0);
+    write!(out, "get_spilled {target}")?;
+    asked_of(out, &state)?;
+    found(out, state.get_spilled(&[70, 71, 70, 72], target))?;
+    writeln!(out)
 }
 
+/// A number of 0 stands for none.
 fn into_next_alloc_id(out: &mut impl Write, first: u32, filled: usize) -> io::Result<()> {
-    let t = state_of(1, first, filled, 0);
-    let next = t.into_next_alloc_id();
-    text(out, "into_next_alloc_id")?;
-    asked_of(out, t)?;
-    word(out, ": code ", next.code)?;
-    word(out, ", id ", next.id)?;
-    text(out, "\n")
+    let state = state_of(1, first, filled, 0);
+    let next = state.into_next_alloc_id();
+    write!(out, "into_next_alloc_id")?;
+    asked_of(out, &state)?;
+    writeln!(out, ": code {}, id {}", code(&next), next.unwrap_or(0))
 }
 
 fn alloc_id(out: &mut impl Write, first: u32, i: usize) -> io::Result<()> {
-    word(out, "alloc_id of first ", first)?;
-    size(out, " and ", i)?;
-    word_or_nothing(out, tracked::alloc_id(first, i))?;
-    text(out, "\n")
+    write!(out, "alloc_id of first {first} and {i}")?;
+    found(out, tracked::alloc_id(first, i))?;
+    writeln!(out)
 }
 
 fn parts_are(out: &mut impl Write, height: u16, first: u32, filled: usize) -> io::Result<()> {
-    let spill = [70u32, 71, 72];
-    let t = state_of(height, first, filled, 0);
-    let s = t.stack();
-    text(out, "parts")?;
-    asked_of(out, t)?;
-    word(out, ": start_alloc_id ", t.start_alloc_id())?;
-    size(out, ", stack ", s.len() as usize)?;
-    text(out, ", underlying_spilled")?;
-    list(out, t.underlying_spilled(&spill))?;
-    text(out, "\n")
+    let state = state_of(height, first, filled, 0);
+    write!(out, "parts")?;
+    asked_of(out, &state)?;
+    let start = state.start_alloc_id();
+    let height = state.stack().len();
+    write!(
+        out,
+        ": start_alloc_id {start}, stack {height}, underlying_spilled"
+    )?;
+    list(out, state.underlying_spilled(&[70, 71, 72]))?;
+    writeln!(out)
 }
 
 fn from_evm(out: &mut impl Write) -> io::Result<()> {
-    new_from_evm(out, 0, 0)?;
-    new_from_evm(out, 1024, 5)?;
-    new_from_evm(out, 1025, 5)?;
-    new_from_evm(out, 65535, 5)?;
-    new_from_evm(out, 1, 4294967292)?;
-    new_from_evm(out, 1, 4294967293)?;
-    new_from_evm(out, 1, 4294967295)?;
-    new_from_evm(out, 1025, 4294967293)?;
-    new_from_evm_no_slots(out, 1, 4294967295)?;
-    new_from_evm_no_slots(out, 1025, 4294967295)
+    for (height, first) in [
+        (0, 0),
+        (1024, 5),
+        (1025, 5),
+        (65535, 5),
+        (1, 4294967292),
+        (1, 4294967293),
+        (1, u32::MAX),
+        (1025, 4294967293),
+    ] {
+        new_from_evm(out, height, first)?;
+    }
+    for (height, first) in [(1, u32::MAX), (1025, u32::MAX)] {
+        new_from_evm_no_slots(out, height, first)?;
+    }
+    Ok(())
 }
 
 fn from_parts(out: &mut impl Write) -> io::Result<()> {
-    new_from_parts(out, 0, 5, 0)?;
-    new_from_parts(out, 1, 5, 2)?;
-    new_from_parts(out, 1024, 5, 3)?;
-    new_from_parts(out, 1025, 5, 3)?;
-    new_from_parts(out, 3, 5, 3)?;
-    new_from_parts(out, 3, 5, 4)?;
-    new_from_parts(out, 3, 4294967292, 3)?;
-    new_from_parts(out, 3, 4294967293, 3)?;
-    new_from_parts(out, 3, 4294967293, 4)?;
-    new_from_parts(out, 1024, 4294967293, 4)?;
-    new_from_parts(out, 1025, 4294967293, 4)?;
-    new_from_parts(out, 1025, 4294967293, 3)?;
-    new_from_parts(out, 3, 5, 18446744073709551615)
+    for (n, first, filled) in [
+        (0, 5, 0),
+        (1, 5, 2),
+        (1024, 5, 3),
+        (1025, 5, 3),
+        (3, 5, 3),
+        (3, 5, 4),
+        (3, 4294967292, 3),
+        (3, 4294967293, 3),
+        (3, 4294967293, 4),
+        (1024, 4294967293, 4),
+        (1025, 4294967293, 4),
+        (1025, 4294967293, 3),
+        (3, 5, usize::MAX),
+    ] {
+        new_from_parts(out, n, first, filled)?;
+    }
+    Ok(())
 }
 
 fn cloning(out: &mut impl Write) -> io::Result<()> {
-    clone_with(out, 0, 5, 0)?;
-    clone_with(out, 3, 5, 2)?;
-    clone_with(out, 3, 5, 3)?;
-    clone_with(out, 3, 5, 4)?;
-    clone_with(out, 1024, 5, 3)?;
-    clone_with(out, 1025, 5, 3)?;
-    clone_with(out, 3, 4294967292, 3)?;
-    clone_with(out, 3, 4294967293, 3)?;
-    clone_with(out, 3, 4294967293, 4)?;
-    clone_with(out, 1025, 4294967293, 4)?;
-    clone_longer(out, 3, 5, 2)?;
-    clone_longer(out, 3, 5, 3)?;
-    clone_longer(out, 3, 4294967292, 2)?;
-    clone_longer(out, 3, 4294967293, 2)
+    for (height, first, filled) in [
+        (0, 5, 0),
+        (3, 5, 2),
+        (3, 5, 3),
+        (3, 5, 4),
+        (1024, 5, 3),
+        (1025, 5, 3),
+        (3, 4294967292, 3),
+        (3, 4294967293, 3),
+        (3, 4294967293, 4),
+        (1025, 4294967293, 4),
+    ] {
+        clone_with(out, &state_of(height, first, filled, 2), &[70, 71, 72, 73])?;
+    }
+    for (height, first, filled) in [(3, 5, 2), (3, 5, 3), (3, 4294967292, 2), (3, 4294967293, 2)] {
+        clone_with(out, &state_of(height, first, filled, 2), &[70, 71])?;
+    }
+    Ok(())
 }
 
 fn asking(out: &mut impl Write) -> io::Result<()> {
-    get_spilled(out, 5, 0, 70)?;
-    get_spilled(out, 5, 1, 70)?;
-    get_spilled(out, 5, 2, 70)?;
-    get_spilled(out, 5, 3, 70)?;
-    get_spilled(out, 5, 3, 72)?;
-    get_spilled(out, 5, 4, 72)?;
-    get_spilled(out, 5, 9, 72)?;
-    get_spilled(out, 5, 4, 73)?;
-    get_spilled(out, 4294967294, 4, 71)?;
-    get_spilled(out, 4294967295, 4, 71)?;
-    get_spilled(out, 4294967295, 4, 70)?;
-    get_spilled(out, 4294967295, 1, 70)?;
-    into_next_alloc_id(out, 0, 0)?;
-    into_next_alloc_id(out, 5, 2)?;
-    into_next_alloc_id(out, 4294967295, 0)?;
-    into_next_alloc_id(out, 4294967293, 2)?;
-    into_next_alloc_id(out, 4294967294, 2)?;
-    into_next_alloc_id(out, 0, 18446744073709551615)?;
-    alloc_id(out, 0, 4294967295)?;
-    alloc_id(out, 0, 4294967296)?;
-    alloc_id(out, 4294967295, 0)?;
-    alloc_id(out, 4294967295, 1)?;
-    parts_are(out, 0, 0, 0)?;
-    parts_are(out, 1024, 4294967295, 2)?;
-    parts_are(out, 1025, 5, 3)?;
-    parts_are(out, 3, 5, 4)
+    for (first, filled, target) in [
+        (5, 0, 70),
+        (5, 1, 70),
+        (5, 2, 70),
+        (5, 3, 70),
+        (5, 3, 72),
+        (5, 4, 72),
+        (5, 9, 72),
+        (5, 4, 73),
+        (4294967294, 4, 71),
+        (u32::MAX, 4, 71),
+        (u32::MAX, 4, 70),
+        (u32::MAX, 1, 70),
+    ] {
+        get_spilled(out, first, filled, target)?;
+    }
+    for (first, filled) in [
+        (0, 0),
+        (5, 2),
+        (u32::MAX, 0),
+        (4294967293, 2),
+        (4294967294, 2),
+        (0, usize::MAX),
+    ] {
+        into_next_alloc_id(out, first, filled)?;
+    }
+    for (first, i) in [
+        (0, 4294967295),
+        (0, 4294967296),
+        (u32::MAX, 0),
+        (u32::MAX, 1),
+    ] {
+        alloc_id(out, first, i)?;
+    }
+    for (height, first, filled) in [(0, 0, 0), (1024, u32::MAX, 2), (1025, 5, 3), (3, 5, 4)] {
+        parts_are(out, height, first, filled)?;
+    }
+    Ok(())
 }
 
 pub(crate) fn run(out: &mut impl Write) -> io::Result<()> {

@@ -1,264 +1,261 @@
 // The stack by itself: heights 0, 1, 1,023 and 1,024, length fields above, depths on both sides of the bottom.
-use super::show::{
-    answer, count_up, list, short, size, stack_after, stack_of, text, word, word_or_nothing,
-    yes_or_no,
-};
-use scope::Depth;
+use super::show::{code, count_up, found, list, stack_after, stack_of, yes_or_no};
+use scope::Refusal;
 use stack::EvmStack;
 use std::io::{self, Write};
 
 fn from_fifo(out: &mut impl Write, n: usize) -> io::Result<()> {
     let mut values = [0u32; 1026];
     count_up(&mut values);
-    let part = tracked::underlying_spilled(&values, n);
-    let a = EvmStack::from_fifo(part);
-    size(out, "from_fifo of ", n)?;
-    answer(out, EvmStack::new(), a)
+    let made = EvmStack::from_fifo(&values[..n.min(1026)]);
+    write!(out, "from_fifo of {n}: code {}", code(&made))?;
+    stack_after(out, &EvmStack::new(), &made.unwrap_or(EvmStack::new()))?;
+    writeln!(out)
+}
+
+/// A call that changes a stack of this height.
+fn changed<F: FnOnce(&mut EvmStack) -> Result<(), Refusal>>(
+    out: &mut impl Write,
+    height: u16,
+    call: F,
+) -> io::Result<()>
+    requires { F.IsAlwaysCallable call }
+{
+    let before = stack_of(height);
+    let mut after = before;
+    let answer = call(&mut after);
+    write!(out, " at {height}: code {}", code(&answer))?;
+    stack_after(out, &before, &after)?;
+    writeln!(out)
 }
 
 fn push(out: &mut impl Write, height: u16) -> io::Result<()> {
-    let s = stack_of(height);
-    short(out, "push 9 at ", height)?;
-    answer(out, s, s.push(9))
+    write!(out, "push 9")?;
+    changed(out, height, |stack| stack.push(9))
 }
 
 fn pop(out: &mut impl Write, height: u16) -> io::Result<()> {
-    let s = stack_of(height);
-    let p = s.pop();
-    let value = p.value;
-    let after = p.stack;
-    short(out, "pop at ", height)?;
-    word_or_nothing(out, value)?;
-    stack_after(out, s, after)?;
-    text(out, "\n")
+    let before = stack_of(height);
+    let mut after = before;
+    let value = after.pop();
+    write!(out, "pop at {height}")?;
+    found(out, value)?;
+    stack_after(out, &before, &after)?;
+    writeln!(out)
 }
 
 fn duplicate(out: &mut impl Write, height: u16, depth: u16) -> io::Result<()> {
-    let s = stack_of(height);
-    short(out, "duplicate ", depth)?;
-    short(out, " at ", height)?;
-    answer(out, s, s.duplicate(depth))
+    write!(out, "duplicate {depth}")?;
+    changed(out, height, |stack| stack.duplicate(depth))
 }
 
 fn swap_with_top(out: &mut impl Write, height: u16, depth: u16) -> io::Result<()> {
-    let s = stack_of(height);
-    short(out, "swap_with_top ", depth)?;
-    short(out, " at ", height)?;
-    answer(out, s, s.swap_with_top(depth))
+    write!(out, "swap_with_top {depth}")?;
+    changed(out, height, |stack| stack.swap_with_top(depth))
 }
 
 fn exchange(out: &mut impl Write, height: u16, n: u16, m: u16) -> io::Result<()> {
-    let s = stack_of(height);
-    short(out, "exchange ", n)?;
-    short(out, " ", m)?;
-    short(out, " at ", height)?;
-    answer(out, s, s.exchange(n, m))
+    write!(out, "exchange {n} {m}")?;
+    changed(out, height, |stack| stack.exchange(n, m))
 }
 
 fn get_by_depth(out: &mut impl Write, height: u16, depth: u16) -> io::Result<()> {
-    let s = stack_of(height);
-    short(out, "get_by_depth ", depth)?;
-    short(out, " at ", height)?;
-    word_or_nothing(out, s.get_by_depth(depth))?;
-    text(out, "\n")
+    write!(out, "get_by_depth {depth} at {height}")?;
+    found(out, stack_of(height).get_by_depth(depth))?;
+    writeln!(out)
 }
 
-// What only looks at the stack as a whole.
+/// What only looks at the stack as a whole.
 fn look(out: &mut impl Write, height: u16) -> io::Result<()> {
-    let s = stack_of(height);
-    short(out, "len at ", height)?;
-    short(out, ": ", s.len())?;
-    text(out, "\n")?;
-    short(out, "is_empty at ", height)?;
-    yes_or_no(out, s.is_empty())?;
-    short(out, "top at ", height)?;
-    word_or_nothing(out, s.top())?;
-    text(out, "\n")
-}
-
-fn depth_or_nothing(out: &mut impl Write, d: Depth) -> io::Result<()> {
-    match d {
-        Depth::Is(k) => short(out, ": ", k),
-        Depth::Nothing => text(out, ": nothing"),
-    }
+    let stack = stack_of(height);
+    writeln!(out, "len at {height}: {}", stack.len())?;
+    write!(out, "is_empty at {height}")?;
+    yes_or_no(out, stack.is_empty())?;
+    write!(out, "top at {height}")?;
+    found(out, stack.top())?;
+    writeln!(out)
 }
 
 fn find_first(out: &mut impl Write, height: u16, target: u32) -> io::Result<()> {
-    let s = stack_of(height);
-    word(out, "find_first ", target)?;
-    short(out, " at ", height)?;
-    depth_or_nothing(out, s.find_first(target))?;
-    text(out, "\n")
+    write!(out, "find_first {target} at {height}")?;
+    found(out, stack_of(height).find_first(target))?;
+    writeln!(out)
 }
 
 fn count(out: &mut impl Write, height: u16, target: u32) -> io::Result<()> {
-    let s = stack_of(height);
-    word(out, "count ", target)?;
-    short(out, " at ", height)?;
-    short(out, ": ", s.count(target))?;
-    text(out, "\n")
+    let times = stack_of(height).count(target);
+    writeln!(out, "count {target} at {height}: {times}")
 }
 
-// A stack on which every value is 7, with this length field.
+/// A stack on which every value is 7, with this length field.
 fn count_sevens(out: &mut impl Write, height: u16) -> io::Result<()> {
-    let values = [7u32; 1024];
-    let a = EvmStack::from_fifo(&values);
-    let mut s = a.stack;
-    s.stack_len = height;
-    short(out, "count 7 on sevens at ", height)?;
-    short(out, ": ", s.count(7))?;
-    text(out, "\n")?;
-    short(out, "find_first 7 on sevens at ", height)?;
-    depth_or_nothing(out, s.find_first(7))?;
-    text(out, "\n")
+    let stack = EvmStack {
+        stack_raw: [7; 1024],
+        stack_len: height,
+    };
+    writeln!(out, "count 7 on sevens at {height}: {}", stack.count(7))?;
+    write!(out, "find_first 7 on sevens at {height}")?;
+    found(out, stack.find_first(7))?;
+    writeln!(out)
 }
 
-// The part of three words that a length says.
+/// The part of three words that a length says.
 fn fifo(out: &mut impl Write, len: u16) -> io::Result<()> {
-    let words = [70u32, 71, 72];
-    short(out, "height of 3 words with length ", len)?;
-    size(out, ": ", stack::height(&words, len))?;
-    text(out, ", fifo")?;
+    let words = [70, 71, 72];
+    let height = stack::height(&words, len);
+    write!(out, "height of 3 words with length {len}: {height}, fifo")?;
     list(out, stack::fifo(&words, len))?;
-    text(out, "\n")
+    writeln!(out)
 }
 
 fn making(out: &mut impl Write) -> io::Result<()> {
-    from_fifo(out, 0)?;
-    from_fifo(out, 1)?;
-    from_fifo(out, 1023)?;
-    from_fifo(out, 1024)?;
-    from_fifo(out, 1025)?;
-    from_fifo(out, 1026)?;
-    fifo(out, 0)?;
-    fifo(out, 1)?;
-    fifo(out, 2)?;
-    fifo(out, 3)?;
-    fifo(out, 4)?;
-    fifo(out, 65535)
+    for n in [0, 1, 1023, 1024, 1025, 1026] {
+        from_fifo(out, n)?;
+    }
+    for len in [0, 1, 2, 3, 4, 65535] {
+        fifo(out, len)?;
+    }
+    Ok(())
 }
 
 fn growing(out: &mut impl Write) -> io::Result<()> {
-    push(out, 0)?;
-    push(out, 1)?;
-    push(out, 1023)?;
-    push(out, 1024)?;
-    push(out, 1025)?;
-    push(out, 65535)?;
-    pop(out, 0)?;
-    pop(out, 1)?;
-    pop(out, 2)?;
-    pop(out, 1023)?;
-    pop(out, 1024)?;
-    pop(out, 1025)?;
-    pop(out, 65535)
+    for height in [0, 1, 1023, 1024, 1025, 65535] {
+        push(out, height)?;
+    }
+    for height in [0, 1, 2, 1023, 1024, 1025, 65535] {
+        pop(out, height)?;
+    }
+    Ok(())
 }
 
 fn duplicating(out: &mut impl Write) -> io::Result<()> {
-    duplicate(out, 0, 0)?;
-    duplicate(out, 0, 65535)?;
-    duplicate(out, 1, 0)?;
-    duplicate(out, 1, 1)?;
-    duplicate(out, 3, 0)?;
-    duplicate(out, 3, 2)?;
-    duplicate(out, 3, 3)?;
-    duplicate(out, 3, 65535)?;
-    duplicate(out, 1023, 0)?;
-    duplicate(out, 1023, 1022)?;
-    duplicate(out, 1023, 1023)?;
-    duplicate(out, 1024, 0)?;
-    duplicate(out, 1024, 1023)?;
-    duplicate(out, 1024, 1024)?;
-    duplicate(out, 65535, 1023)?;
-    duplicate(out, 65535, 1024)
+    for (height, depth) in [
+        (0, 0),
+        (0, 65535),
+        (1, 0),
+        (1, 1),
+        (3, 0),
+        (3, 2),
+        (3, 3),
+        (3, 65535),
+        (1023, 0),
+        (1023, 1022),
+        (1023, 1023),
+        (1024, 0),
+        (1024, 1023),
+        (1024, 1024),
+        (65535, 1023),
+        (65535, 1024),
+    ] {
+        duplicate(out, height, depth)?;
+    }
+    Ok(())
 }
 
 fn swapping(out: &mut impl Write) -> io::Result<()> {
-    swap_with_top(out, 0, 0)?;
-    swap_with_top(out, 0, 1)?;
-    swap_with_top(out, 1, 0)?;
-    swap_with_top(out, 1, 1)?;
-    swap_with_top(out, 3, 0)?;
-    swap_with_top(out, 3, 1)?;
-    swap_with_top(out, 3, 2)?;
-    swap_with_top(out, 3, 3)?;
-    swap_with_top(out, 3, 65535)?;
-    swap_with_top(out, 1023, 1022)?;
-    swap_with_top(out, 1023, 1023)?;
-    swap_with_top(out, 1024, 0)?;
-    swap_with_top(out, 1024, 1023)?;
-    swap_with_top(out, 1024, 1024)?;
-    swap_with_top(out, 65535, 1023)?;
-    swap_with_top(out, 65535, 1024)
+    for (height, depth) in [
+        (0, 0),
+        (0, 1),
+        (1, 0),
+        (1, 1),
+        (3, 0),
+        (3, 1),
+        (3, 2),
+        (3, 3),
+        (3, 65535),
+        (1023, 1022),
+        (1023, 1023),
+        (1024, 0),
+        (1024, 1023),
+        (1024, 1024),
+        (65535, 1023),
+        (65535, 1024),
+    ] {
+        swap_with_top(out, height, depth)?;
+    }
+    Ok(())
 }
 
 fn exchanging(out: &mut impl Write) -> io::Result<()> {
-    exchange(out, 0, 0, 0)?;
-    exchange(out, 0, 3, 4)?;
-    exchange(out, 1, 0, 0)?;
-    exchange(out, 1, 0, 1)?;
-    exchange(out, 1, 1, 0)?;
-    exchange(out, 3, 0, 2)?;
-    exchange(out, 3, 2, 0)?;
-    exchange(out, 3, 1, 2)?;
-    exchange(out, 3, 2, 2)?;
-    exchange(out, 3, 2, 3)?;
-    exchange(out, 3, 3, 2)?;
-    exchange(out, 3, 3, 3)?;
-    exchange(out, 1024, 1022, 1023)?;
-    exchange(out, 1024, 1023, 0)?;
-    exchange(out, 1024, 1023, 1024)?;
-    exchange(out, 1024, 1024, 1023)?;
-    exchange(out, 1025, 0, 1023)?;
-    exchange(out, 1025, 0, 1024)?;
-    exchange(out, 65535, 1023, 65534)
+    for (height, n, m) in [
+        (0, 0, 0),
+        (0, 3, 4),
+        (1, 0, 0),
+        (1, 0, 1),
+        (1, 1, 0),
+        (3, 0, 2),
+        (3, 2, 0),
+        (3, 1, 2),
+        (3, 2, 2),
+        (3, 2, 3),
+        (3, 3, 2),
+        (3, 3, 3),
+        (1024, 1022, 1023),
+        (1024, 1023, 0),
+        (1024, 1023, 1024),
+        (1024, 1024, 1023),
+        (1025, 0, 1023),
+        (1025, 0, 1024),
+        (65535, 1023, 65534),
+    ] {
+        exchange(out, height, n, m)?;
+    }
+    Ok(())
 }
 
 fn reading(out: &mut impl Write) -> io::Result<()> {
-    get_by_depth(out, 0, 0)?;
-    get_by_depth(out, 1, 0)?;
-    get_by_depth(out, 1, 1)?;
-    get_by_depth(out, 3, 2)?;
-    get_by_depth(out, 3, 3)?;
-    get_by_depth(out, 1023, 1022)?;
-    get_by_depth(out, 1023, 1023)?;
-    get_by_depth(out, 1024, 1023)?;
-    get_by_depth(out, 1024, 1024)?;
-    get_by_depth(out, 1024, 65535)?;
-    get_by_depth(out, 65535, 1023)?;
-    get_by_depth(out, 65535, 1024)?;
-    look(out, 0)?;
-    look(out, 1)?;
-    look(out, 1023)?;
-    look(out, 1024)?;
-    look(out, 1025)?;
-    look(out, 65535)
+    for (height, depth) in [
+        (0, 0),
+        (1, 0),
+        (1, 1),
+        (3, 2),
+        (3, 3),
+        (1023, 1022),
+        (1023, 1023),
+        (1024, 1023),
+        (1024, 1024),
+        (1024, 65535),
+        (65535, 1023),
+        (65535, 1024),
+    ] {
+        get_by_depth(out, height, depth)?;
+    }
+    for height in [0, 1, 1023, 1024, 1025, 65535] {
+        look(out, height)?;
+    }
+    Ok(())
 }
 
 fn finding(out: &mut impl Write) -> io::Result<()> {
-    find_first(out, 0, 0)?;
-    find_first(out, 0, 1)?;
-    find_first(out, 1, 0)?;
-    find_first(out, 1, 1)?;
-    find_first(out, 3, 3)?;
-    find_first(out, 3, 4)?;
-    find_first(out, 1024, 1)?;
-    find_first(out, 1024, 1024)?;
-    find_first(out, 1024, 1025)?;
-    find_first(out, 65535, 1024)?;
-    count(out, 0, 0)?;
-    count(out, 1, 0)?;
-    count(out, 1, 1)?;
-    count(out, 3, 3)?;
-    count(out, 3, 4)?;
-    count(out, 1024, 1024)?;
-    count(out, 1024, 1025)?;
-    count_sevens(out, 0)?;
-    count_sevens(out, 1)?;
-    count_sevens(out, 1023)?;
-    count_sevens(out, 1024)?;
-    count_sevens(out, 1025)?;
-    count_sevens(out, 65535)
+    for (height, target) in [
+        (0, 0),
+        (0, 1),
+        (1, 0),
+        (1, 1),
+        (3, 3),
+        (3, 4),
+        (1024, 1),
+        (1024, 1024),
+        (1024, 1025),
+        (65535, 1024),
+    ] {
+        find_first(out, height, target)?;
+    }
+    for (height, target) in [
+        (0, 0),
+        (1, 0),
+        (1, 1),
+        (3, 3),
+        (3, 4),
+        (1024, 1024),
+        (1024, 1025),
+    ] {
+        count(out, height, target)?;
+    }
+    for height in [0, 1, 1023, 1024, 1025, 65535] {
+        count_sevens(out, height)?;
+    }
+    Ok(())
 }
 
 pub(crate) fn run(out: &mut impl Write) -> io::Result<()> {

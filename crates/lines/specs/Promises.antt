@@ -1,18 +1,13 @@
 -- What a call that lays text into a lent buffer leaves, and the text of each part of a trace.
-use Rattle.std.specs.Prelude.{ℕ, suc, ◌+◌, ◌-◌, min, ◌≡◌, List, [], ◌∷◌, ◌++◌, length, take, drop, replicate, eqb, ltb, if◌then◌else◌}
-use Rattle.std.proofs.Math.Option.{Option, none, some}
-use Rattle.std.proofs.lemmas.List.Edits.{sets}
+use Rattle.std.specs.Prelude.{ℕ, suc, ◌+◌, ◌-◌, min, List, [], ◌∷◌, ◌++◌, length, take, drop, replicate, eqb, ltb, if◌then◌else◌}
+use Rattle.std.specs.Prelude.{Option, None as none, Some as some}
 use Rattle.scope.specs.declared.Op.{Op}
 use Rattle.scope.specs.Codes.{MAX-GAS}
 use Rattle.scope.specs.Replay.{decoded}
 use Rattle.scope.specs.Stack.{decimal, printed, stack_op}
+use Rattle.printing.specs.Promises.{Lays}
 
 -- ---- Text in a buffer
-
--- Text from a place on, as far as the buffer goes, and the place after what fitted; every other byte is as it was lent.
-pub record Lays (lent : List ℕ) (at : ℕ) (text left : List ℕ) (next : ℕ) : Type 0 where
-  pub bytes-are : left ≡ sets lent at text
-  pub next-is : next ≡ at + min (length text) (length lent - at)
 
 -- some text, where only this is promised: the bytes before the place and after what fitted are as they were lent
 pub record Wrote (lent : List ℕ) (at : ℕ) (left : List ℕ) (next : ℕ) : Type 0 where

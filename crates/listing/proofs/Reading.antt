@@ -1,17 +1,22 @@
 -- A line that is the same as an operation's form is that operation; a list's words grow at their end.
 use Prim.Native.Nat.{ℕ, ◌+◌, ◌*◌}
 use native.Mathlib.Omega.{arith}
-use mathlib.Core.Path.{◌≡◌, sym, ap, ◌∙◌}
+use Rattle.std.proofs.lemmas.Bool.Decides.{Decides-eqb}
+use Rattle.std.proofs.lemmas.Slice.Eq.{slice_eq-Decides}
 use mathlib.Core.Bool.{Bool, true}
+use lib.Dec.{eqb}
+use lib.Pointwise.{pointwise}
+use mathlib.Core.Path.{◌≡◌, sym, ap, ◌∙◌}
+use Rattle.std.proofs.Common.{Result, Ok}
 use mathlib.Core.List.{List}
 use lib.ListN.{length, set, take, drop, replicate, length-set}
 use lib.Seq.{sets-eq, take_at, drop-set-lt, drop-drop}
-use Rattle.scope.specs.Words.{same_list}
-use Rattle.scope.proofs.Exact.{same-eq}
 use Rattle.reader.specs.declared.Record.{Record}
-use Rattle.lines.specs.Promises.{Lays, spelled}
+use Rattle.printing.specs.Promises.{Lays}
+use Rattle.lines.specs.Promises.{spelled}
 use Rattle.lines.proofs.Parts.{spelled-short}
-use Rattle.listing.specs.Promises.{ReadAs, Stored, Lists, Takes}
+use Rattle.listing.specs.Promises.{Stored, Lists, Takes}
+use Rattle.listing.specs.declared.Unlisted.{Unlisted}
 
 -- ---- One line
 
@@ -21,13 +26,12 @@ form k a len text h =
     let e : length (spelled k a) ≡ len = omega (arith, h.next-is) in
     ap (λ (m : List ℕ). take len m) (h.bytes-are ∙ sets-eq (spelled k a) (replicate 56 0) 0 (omega arith)) ∙ take_at (spelled k a) (drop (0 + length (spelled k a)) (replicate 56 0)) len e
 
-pub read-it : (line text : List ℕ) (k a len : ℕ) (b : Bool) → Lays (replicate 56 0) 0 (spelled k a) text len → b ≡ same_list line (take len text) → b ≡ true → (k ≡ 0 → ⊥) → ReadAs line (record { kind = k; argument = a })
-read-it line text k a len b h s t nz =
-    record { sound = λ z. same-eq line (take len text) (sym s ∙ t) ∙ form k a len text h; none = λ z. absurd (nz z) }
+pub read-it : (line text : List ℕ) (k a len : ℕ) (b : Bool) → Lays (replicate 56 0) 0 (spelled k a) text len → b ≡ pointwise eqb line (take len text) → b ≡ true → line ≡ spelled k a
+read-it line text k a len b h e t = (slice_eq-Decides Decides-eqb line (take len text) b e).0 t ∙ form k a len text h
 
 -- ---- The words
 
-so-one : {ops : ℕ} {o : Record} {b : Bool} {before now now₁ : List ℕ} → Lists ops before now → Stored ops o b now now₁ → b ≡ true → Lists (ops + 1) before now₁
+so-one : {ops : ℕ} {o : Record} {r : Result Unit Unlisted} {before now now₁ : List ℕ} → Lists ops before now → Stored ops o r now now₁ → r ≡ Ok tt → Lists (ops + 1) before now₁
 so-one {ops} {o} {before = before} {now = now} s t e =
     let w = t.taken e in
     let f = w.0 in
@@ -40,5 +44,5 @@ so-one {ops} {o} {before = before} {now = now} s t e =
       beyond = drop-set-lt (2 * (ops + 1)) (set now (2 * ops) o.kind) (2 * ops + 1) o.argument (omega arith) ∙ drop-set-lt (2 * (ops + 1)) now (2 * ops) o.kind (omega arith) ∙ d;
     })
 
-pub takes_one : (ops : ℕ) (o : Record) (b : Bool) (words after : List ℕ) → Stored ops o b words after → b ≡ true → Takes ops (ops + 1) words after
-takes_one ops o b words after t e = record { keeps = λ before h. so-one h t e }
+pub takes_one : (ops : ℕ) (o : Record) (r : Result Unit Unlisted) (words after : List ℕ) → Stored ops o r words after → r ≡ Ok tt → Takes ops (ops + 1) words after
+takes_one ops o r words after t e = record { keeps = λ before h. so-one h t e }

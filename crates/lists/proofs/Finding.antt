@@ -1,45 +1,56 @@
--- `first_of` and `latest_of` by a loop over the indices: what is left to look at still gives the whole answer.
-use Prim.Native.Nat.{ℕ, ◌+◌, ◌-◌, ◌≤◌, ◌<◌}
-use native.Mathlib.Omega.{arith}
-use mathlib.Core.Path.{◌≡◌, sym, ap, ◌∙◌}
-use mathlib.Core.Option.{none, some}
-use mathlib.Core.List.{List}
-use lib.ListN.{length, get_or}
-use borrow.Author.Tests.{eq-eqb, ne_eqb}
-use Rattle.scope.specs.Words.{lowest, highest, holds, first_of, latest_of}
-use Rattle.scope.proofs.Walks.{lowest-found, lowest-again, lowest-out, highest-hit, highest-miss}
+-- Std's walks over a slice are scope's.
+use Rattle.std.proofs.Common.{ℕ, zero, suc, ◌+◌, ◌-◌, ◌≤◌, ◌≡◌, Bool, true, false, List, [], ◌∷◌, Option}
+use Rattle.std.proofs.Common.{refl, sym, ◌∙◌, cond, nat_eq, length, take, drop, arith}
+use Rattle.std.specs.Prelude.{position, count_by, if◌then◌else◌}
+use Rattle.std.proofs.lemmas.List.Recursion.{is_count_by}
+use Rattle.std.specs.List.{list_any, position_from}
+use Rattle.std.specs.Cmp.Lexicographic.{pointwise}
+use Rattle.std.proofs.lemmas.Iterator.Adapters.{position_from-zero}
+use native.Mathlib.Numerals.{add-one}
+use lib.ListN.{drop_of_length-le}
+use lib.Seq.{drop-cons, take_all}
+use Rattle.scope.specs.Words.{◌∈◌, count, lowest, seek, holds, first_of, same_list}
 
--- upward: from i on
-module _ (v : ℕ) (l : List ℕ) (i : ℕ) (rest : lowest i (length l) (holds l v) ≡ first_of v l) where
-  pub first_found : i < length l → get_or l i 0 ≡ v → some i ≡ first_of v l
-  unfolding first_of holds
-  first_found h e = sym (lowest-found 0 (length l) i (holds l v) h (eq-eqb (get_or l i 0) v e) rest)
+any-in : (v : ℕ) (l : List ℕ) → list_any (λ y. nat_eq y v) l ≡ (v ∈ l)
+unfolding ◌∈◌
+any-in v [] = refl
+any-in v (x ∷ l) = rw (any-in v l) refl
 
-  pub first-again : i < length l → (get_or l i 0 ≡ v → ⊥) → lowest (i + 1) (length l) (holds l v) ≡ first_of v l
-  unfolding first_of holds
-  first-again h e = lowest-again 0 (length l) i (holds l v) h (ne_eqb (get_or l i 0) v e) rest
+-- `contains`
+pub in_list : (b : Bool) (v : ℕ) (l : List ℕ) → b ≡ list_any (λ y. nat_eq y v) l → b ≡ (v ∈ l)
+in_list b v l h = h ∙ any-in v l
 
-  pub first_out : length l ≤ i → none ≡ first_of v l
-  unfolding first_of
-  first_out h = sym (lowest-out 0 (length l) i (holds l v) h rest)
+counted : (v : ℕ) (l : List ℕ) → count_by (λ x. nat_eq x v) l ≡ count v l
+unfolding count
+counted v l = sym (is_count_by (count v) (λ x. nat_eq x v) refl (λ x xs. step (nat_eq x v) (count v xs)) l)
+  where
+    step : (b : Bool) (n : ℕ) → (if b then suc n else n) ≡ cond b (1 + n) n
+    step true n = omega arith
+    step false n = refl
 
-pub ruleset first-loop = (first_found, first-again, first_out)
+-- a count by hand, when all is passed
+pub count_list : (n i v : ℕ) (l : List ℕ) → n ≡ count_by (λ x. nat_eq x v) (take i l) → length l ≤ i → n ≡ count v l
+count_list n i v l h out = rw take_all at h ∙ counted v l
 
--- downward: below i, and next at i - 1
-module _ (v : ℕ) (l : List ℕ) (i : ℕ) (rest : highest i (holds l v) ≡ latest_of v l) where
-  step : 0 < i → i ≡ i - 1 + 1
-  step h = omega arith
+same : (a b : List ℕ) → pointwise nat_eq a b ≡ same_list a b
+unfolding same_list
+same [] [] = refl
+same [] (y ∷ b) = refl
+same (x ∷ a) [] = refl
+same (x ∷ a) (y ∷ b) = rw (same a b) refl
 
-  pub last_found : 0 < i → get_or l (i - 1) 0 ≡ v → some (i - 1) ≡ latest_of v l
-  unfolding holds
-  last_found h e = sym (highest-hit (i - 1) (holds l v) (eq-eqb (get_or l (i - 1) 0) v e)) ∙ ap (λ (k : ℕ). highest k (holds l v)) (sym (step h)) ∙ rest
+-- `==`
+pub same_slices : (r : Bool) (a b : List ℕ) → r ≡ pointwise nat_eq a b → r ≡ same_list a b
+same_slices r a b h = h ∙ same a b
 
-  pub last-again : 0 < i → (get_or l (i - 1) 0 ≡ v → ⊥) → highest (i - 1) (holds l v) ≡ latest_of v l
-  unfolding holds
-  last-again h e = sym (highest-miss (i - 1) (holds l v) (ne_eqb (get_or l (i - 1) 0) v e)) ∙ ap (λ (k : ℕ). highest k (holds l v)) (sym (step h)) ∙ rest
+from-on : (v : ℕ) (l : List ℕ) (k i : ℕ) → i + k ≡ length l → position_from (λ x. nat_eq x v) i (drop i l) ≡ seek k i (holds l v)
+unfolding seek holds
+from-on v l zero i h = rw (drop_of_length-le l {i = i} (omega arith)) refl
+from-on v l (suc k) i h = rw (drop-cons l i 0 (omega arith), add-one i, from-on v l k (suc i) (omega arith)) refl
 
-  pub last_out : i ≤ 0 → none ≡ latest_of v l
-  unfolding highest
-  last_out h = let z : 0 ≡ i = omega arith in ap (λ (k : ℕ). highest k (holds l v)) z ∙ rest
-
-pub ruleset last-loop = (last_found, last-again, last_out)
+-- `position`
+pub first_position : (r : Option ℕ) (v : ℕ) (l : List ℕ) → r ≡ position (λ x. nat_eq x v) l → r ≡ first_of v l
+unfolding first_of lowest
+first_position r v l h =
+    let all : length l - 0 ≡ length l = omega arith in
+    rw all (h ∙ position_from-zero (λ x. nat_eq x v) l ∙ from-on v l (length l) 0 (omega arith))

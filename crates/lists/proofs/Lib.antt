@@ -1,3 +1,3 @@
 pub mod Finding
 pub mod Blocks
-pub mod Sameness
+pub mod Searching

@@ -1,142 +1,76 @@
-// Walks over a slice, and arithmetic on lengths. Every function here answers for every input.
+//! Walks over a slice. Every function here answers for every input.
 #![tactic(auto)]
 
-ghost use Rattle.std.specs.Prelude.{◌≡◌, ◌+◌, ◌-◌, ◌≤◌, ◌<◌, min, max, length};
-ghost use Rattle.scope.specs.Words.{◌∈◌, count, first_of, latest_of, same_list, highest, holds};
-ghost use Rattle.scope.specs.Stack.{found_of};
+ghost use Rattle.std.specs.Prelude.{◌≡◌, ◌≤◌, length};
+ghost use Rattle.scope.specs.Words.{◌∈◌, count, first_of, latest_of, same_list};
 
-use scope::Found;
-
-// The smaller of two numbers.
-pub fn least(a: usize, b: usize) -> usize
-    ensures { result ≡ min a b }
-{
-    if a < b { a } else { b }
-}
-
-// The larger of two numbers.
-pub fn most(a: usize, b: usize) -> usize
-    ensures { result ≡ max a b }
-{
-    if a < b { b } else { a }
-}
-
-// How much a is above b, 0 where it is not.
-pub fn less(a: usize, b: usize) -> usize
-    ensures { result ≡ a - b }
-{
-    if b <= a { a - b } else { 0 }
-}
-
-// How often v is in a slice of at most 1,024 words. The count is as wide as the words, so that many are compared at a time.
+/// How often a value is in a slice of at most 1,024 words. The count is as wide as the words, so that many are compared at a time.
 fn few(s: &[u32], v: u32) -> u32
     requires { length s.now ≤ 1024 }
-    ensures { (result ≡ count v s.now) × (result ≤ length s.now) }
+    ensures value { result ≡ count v s.now }
+    ensures within { result ≤ length s.now }
 {
     let mut n: u32 = 0;
-    let mut i = 0;
-    while i < s.len() {
-        if s[i] == v {
+    for x in s {
+        if *x == v {
             n += 1;
         }
-        i += 1;
     }
     n
 }
 
-// How often v is in s, block by block.
+/// How often a value is in a slice.
 pub fn count_of(s: &[u32], v: u32) -> usize
     ensures { result ≡ count v s.now }
 {
-    let mut n: usize = 0;
-    let mut i = 0;
-    while 1024 <= s.len() - i {
-        let e = i + 1024;
-        n += few(&s[i..e], v) as usize;
-        i = e;
+    let mut n = 0;
+    let mut rest = s;
+    while let Some((block, after)) = rest.split_first_chunk::<1024>() {
+        n += few(block, v) as usize;
+        rest = after;
     }
-    n + few(&s[i..], v) as usize
+    n + few(rest, v) as usize
 }
 
-// Where the block that starts at i ends: 64 words on, at the end at most.
-fn block_end(i: usize, end: usize) -> usize
-    requires { i < end }
-    ensures { (i < result) × (result ≤ end) × (result ≤ i + 64) }
-{
-    if end - i < 64 { end } else { i + 64 }
-}
-
-// Whether v is in s. A block has no early exit, and so is compared many words at a time; the walk over the blocks has one.
+/// Whether a value is in a slice.
+#[tactic(auto, using(crate::proofs::Finding::in_list))]
 pub fn occurs(s: &[u32], v: u32) -> bool
     ensures { result ≡ (v ∈ s.now) }
 {
-    let mut i = 0;
-    while i < s.len() {
-        let e = block_end(i, s.len());
-        if 0 < few(&s[i..e], v) {
-            return true;
-        }
-        i = e;
-    }
-    false
+    s.contains(&v)
 }
 
-// The smallest index of v in s, or nothing.
-pub fn find_first(s: &[u32], v: u32) -> Found
-    ensures { found_of result ≡ first_of v s.now }
+/// The smallest index of a value, or nothing.
+pub fn find_first(s: &[u32], v: u32) -> Option<usize>
+    ensures { result ≡ first_of v s.now }
 {
-    let mut d = 0;
-    while d < s.len() {
-        if s[d] == v {
-            return Found::At(d);
-        }
-        d += 1;
-    }
-    Found::Nothing
+    s.iter().position(|x| *x == v)
 }
 
-// The length of s without the blocks at its end that lack v.
-fn without_end(s: &[u32], v: u32) -> usize
-    ensures { (result ≤ length s.now) × (highest result (holds s.now v) ≡ latest_of v s.now) }
+/// The largest index of a value, or nothing. Blocks without the value are passed over whole.
+#[tactic(auto, using(crate::proofs::Blocks::last_walk), unfolding(scope::specs::Words::latest_of))]
+pub fn find_last(s: &[u32], v: u32) -> Option<usize>
+    ensures { result ≡ latest_of v s.now }
 {
-    let mut e = s.len();
-    while 64 <= e {
-        let b = e - 64;
-        if 0 < few(&s[b..e], v) {
-            return e;
+    let mut rest = s;
+    while let Some((before, block)) = rest.split_last_chunk::<64>() {
+        if 0 < few(block, v) {
+            break;
         }
-        e = b;
+        rest = before;
     }
-    e
-}
-
-// The largest index of v in s, or nothing.
-pub fn find_last(s: &[u32], v: u32) -> Found
-    ensures { found_of result ≡ latest_of v s.now }
-{
-    let mut k = without_end(s, v);
-    while 0 < k {
-        k -= 1;
-        if s[k] == v {
-            return Found::At(k);
+    for k in (0..rest.len()).rev() {
+        if rest[k] == v {
+            return Some(k);
         }
     }
-    Found::Nothing
+    None
 }
 
-// Whether two slices have the same values in the same order.
+/// Whether two slices have the same values in the same order.
+#[tactic(auto, using(crate::proofs::Finding::same_slices))]
 pub fn equal(a: &[u32], b: &[u32]) -> bool
     ensures { result ≡ same_list a.now b.now }
 {
-    if a.len() != b.len() {
-        return false;
-    }
-    let mut i = 0;
-    while i < a.len() {
-        if a[i] != b[i] {
-            return false;
-        }
-        i += 1;
-    }
-    true
+    a == b
 }

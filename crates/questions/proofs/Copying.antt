@@ -1,27 +1,23 @@
--- What (v) asks, return by return: a value that needs another copy, and where it stands first.
+-- What (v) asks: a value that needs another copy, and where it stands first.
 use Rattle.std.specs.Prelude.{if◌then◌else◌}
-use Prim.Native.Nat.{ℕ, zero, suc, ◌+◌, ◌-◌, ◌<◌, ◌≤◌}
+use Rattle.std.specs.Bool.{then_some}
+use Prim.Native.Nat.{ℕ, ◌-◌, ◌<◌, ◌≤◌}
 use native.Mathlib.Omega.{arith}
 use native.Mathlib.Decide.{dec_lt}
-use native.Mathlib.Numerals.{add-one}
 use mathlib.Core.Path.{◌≡◌, refl, sym, ap, ◌∙◌}
 use mathlib.Core.Bool.{Bool, true, false, ◌&&◌, true≢false}
-use mathlib.Core.Option.{Option, none, some, none-ne-some}
+use Rattle.std.proofs.Common.{Option, None as none, Some as some}
+use Rattle.std.proofs.lemmas.Option.{none-some as none-ne-some}
 use mathlib.Core.List.{List}
-use lib.ListN.{length, get_or, take, drop, length-take}
+use lib.ListN.{length, get_or, take, length-take}
 use lib.Seq.{take_all, get_or-take}
-use lib.Dec.{eqb}
-use borrow.Author.Tests.{eqb-true, eqb-false, lt-ltb, le-ltb}
-use Rattle.scope.specs.declared.Found.{Found}
-use Rattle.scope.specs.declared.Found.TheVariants.{At, Nothing}
+use lib.Dec.{eqb, ltb}
+use borrow.Author.Tests.{eqb-true}
 use Rattle.scope.specs.Words.{◌∈◌, count, holds, first_of, ◌at◌, ◌from◌}
-use Rattle.scope.specs.Stack.{found_of}
 use Rattle.scope.specs.Rules.{needs_copy}
-use Rattle.scope.proofs.Walks.{Lowest, lowest-some, lowest-none, in_take, count-hit, count-miss}
-use Rattle.scope.proofs.Counts.{count-in}
-use Rattle.lists.proofs.Blocks.{rest-whole}
+use Rattle.scope.proofs.Walks.{Lowest, lowest-some, lowest-none, in_take}
+use Rattle.scope.proofs.Counts.{count-in, count_at}
 use Rattle.questions.specs.Promises.{copy_for}
-use Rattle.questions.proofs.Answers.{found_some, found_none}
 
 -- ---- the first place of a value
 
@@ -29,19 +25,12 @@ first-lowest : (v : ℕ) (l : List ℕ) (d : ℕ) → first_of v l ≡ some d �
 unfolding first_of
 first-lowest v l d e = lowest-some 0 (length l) (holds l v) d e
 
--- below it nothing is counted
-none_before : (v : ℕ) (l : List ℕ) (d : ℕ) → d ≤ length l → ((i : ℕ) → i < d → holds l v i ≡ false) → count v (drop d l) ≡ count v l
+first-in : (v : ℕ) (l : List ℕ) (d : ℕ) → first_of v l ≡ some d → (v ∈ l) ≡ true
 unfolding holds
-none_before v l zero h k = refl
-none_before v l (suc d) h k =
-    (rw add-one at (sym (count-miss v l d (omega arith) (eqb-false (get_or l d 0) v (k d (omega arith))))))
-    ∙ none_before v l d (omega arith) (λ i j. k i (omega arith))
-
-first_counted : (v : ℕ) (l : List ℕ) (d : ℕ) → first_of v l ≡ some d → count v l ≡ suc (count v (drop (d + 1) l))
-unfolding holds
-first_counted v l d e =
+first-in v l d e =
     let y = first-lowest v l d e in
-    sym (none_before v l d (omega (arith, y.below)) (λ i j. y.none-lower i (omega arith) j)) ∙ count-hit v l d y.below (eqb-true (get_or l d 0) v y.has)
+    let is : get_or l d 0 ≡ v = eqb-true (get_or l d 0) v y.has in
+    count-in v l (rw is at (count_at d l y.below))
 
 first_absent : (v : ℕ) (l : List ℕ) → first_of v l ≡ none → (v ∈ l) ≡ false
 unfolding first_of holds
@@ -81,33 +70,23 @@ module _ (v k : ℕ) (C : List ℕ) (d : ℕ) (e : first_of v (take k C) ≡ som
           lower (no a) (yes b) y = absurd (true≢false (sym here ∙ y.none-lower d (omega arith) b))
           lower (no a) (no b) y = let z : j ≡ d = omega arith in h ∙ ap some z
 
-pub found_inside : (v : ℕ) (l : List ℕ) (f : Found) (d : ℕ) → found_of f ≡ first_of v l → f ≡ At d → d < length l
-found_inside v l f d e h = (first-lowest v l d (found_some (first_of v l) f e d h)).below
-
 -- ---- (v)
 
-module _ (C T P : List ℕ) (b p v : ℕ) (f : Found) (ev : v ≡ (T at p)) (ep : P ≡ (C from b)) (ef : found_of f ≡ first_of v P) where
-  pub copy-absent : f ≡ Nothing → none ≡ copy_for C T b p
+module _ (C T P : List ℕ) (b p v : ℕ) (x : Option ℕ) (ev : v ≡ (T at p)) (ep : P ≡ (C from b)) (ex : x ≡ first_of v P) where
+  pub copy-absent : x ≡ none → none ≡ copy_for C T b p
   unfolding needs_copy
-  copy-absent h = rw (← ev, ← ep, first_absent v P (found_none _ f ef h))
+  copy-absent h = rw (← ev, ← ep, first_absent v P (sym ex ∙ h))
 
-  module _ (d x y : ℕ) (Q : List ℕ) (h : f ≡ At d) (ex : x ≡ count v (take (length P - (d + 1)) (drop (d + 1) P))) (eq : Q ≡ (T from b)) (ey : y ≡ count v Q) where
-    counts : count v P ≡ suc x
-    counts = first_counted v P d (found_some _ f ef d h) ∙ ap suc (sym (ex ∙ rw (rest-whole P (d + 1))))
-
-    is-in : (v ∈ P) ≡ true
-    is-in = count-in v P (omega (arith, counts))
-
-    first-there : first_of v C ≡ some d
-    first-there = first-of-part v (length C - b) C d (rw ep at (found_some _ f ef d h))
-
-    pub copy-needed : (z : ℕ) → z ≡ y - 1 → x < z → some d ≡ copy_for C T b p
-    unfolding needs_copy
-    copy-needed z ez l = rw (← ev, ← ep, is-in, counts, ← eq, ← ey, lt-ltb (suc x) y (omega arith), first-there)
-
-    pub copy-enough : (z : ℕ) → z ≡ y - 1 → z ≤ x → none ≡ copy_for C T b p
-    unfolding needs_copy
-    copy-enough z ez l = rw (← ev, ← ep, is-in, counts, ← eq, ← ey, le-ltb (suc x) y (omega arith))
+  pub copy-first : (d m n : ℕ) (Q : List ℕ) → x ≡ some d → Q ≡ (T from b) → m ≡ count v P → n ≡ count v Q
+      → then_some (ltb m n) d ≡ copy_for C T b p
+  unfolding needs_copy
+  copy-first d m n Q h eq em en =
+      let there = first-of-part v (length C - b) C d (rw ep at (sym ex ∙ h)) in
+      rw (← ev, ← ep, first-in v P d (sym ex ∙ h), ← eq, ← em, ← en, there) (either (ltb m n))
+    where
+      either : (r : Bool) → then_some r d ≡ (if r then some d else none)
+      either true = refl
+      either false = refl
 
 -- ---- what the answer says
 

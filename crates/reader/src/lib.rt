@@ -2,53 +2,65 @@
 #![tactic(auto)]
 
 ghost use Rattle.std.specs.Prelude.{◌≡◌};
-ghost use Rattle.reader.specs.Promises.{record_at};
+ghost use Rattle.reader.specs.Promises.{record_at, left};
 
-// An operation's two words.
-#[derive(Clone, Copy)]
+/// An operation's two words.
+#[derive(Clone, Copy, Debug, PartialEq, Eq, Default)]
 pub struct Record {
     pub kind: u32,
     pub argument: u32,
 }
 
-#[derive(Clone, Copy)]
+/// The operation words, and the place of the next record.
+#[derive(Clone, Copy, Debug)]
 pub struct Reader<'a> {
     pub words: &'a [u32],
     pub at: usize,
 }
 
-// The record that starts at a place of the words.
-pub fn record_at(words: &[u32], at: usize) -> Record
-    ensures { result ≡ record_at words.now at }
-{
-    if words.len() <= at {
-        return Record {
-            kind: 0,
-            argument: 0,
-        };
-    }
-    if words.len() - at < 2 {
-        return Record {
-            kind: words[at],
-            argument: 0,
-        };
-    }
-    Record {
-        kind: words[at],
-        argument: words[at + 1],
-    }
-}
-
-// The next kind and argument: those at the reader's place.
-pub fn next<'a>(r: Reader<'a>) -> Record
-    ensures { result ≡ record_at r.entry.words.now r.entry.at }
-{
-    record_at(r.words, r.at)
-}
-
-// What a reader at a place of the words reads next: for callers that have a plain slice and a number.
+/// The record that starts at a place of the words, counted in words.
 pub fn read_at(words: &[u32], at: usize) -> Record
     ensures { result ≡ record_at words.now at }
 {
-    next(Reader { words, at })
+    match words.get(at..) {
+        Some([kind, argument, ..]) => Record {
+            kind: *kind,
+            argument: *argument,
+        },
+        Some([kind, ..]) => Record {
+            kind: *kind,
+            argument: 0,
+        },
+        _ => Record::default(),
+    }
+}
+
+impl<'a> Reader<'a> {
+    /// A reader at the first word.
+    pub fn new(words: &'a [u32]) -> Reader<'a>
+        ensures words { result.words ≡ words.entry }
+        ensures start { result.at ≡ 0 }
+    {
+        Reader { words, at: 0 }
+    }
+}
+
+impl Iterator for Reader<'_> {
+    type Item = Record;
+
+    ghost use Rattle.std.specs.Iterator.{YieldsFirst, item_count};
+    ghost use Rattle.reader.specs.Promises.{left};
+
+    ghost next_gives = { YieldsFirst left };
+
+    ghost remaining = { item_count left };
+
+    fn next(&mut self) -> Option<Record> {
+        if self.words.len() <= self.at {
+            return None;
+        }
+        let record = read_at(self.words, self.at);
+        self.at += 2;
+        Some(record)
+    }
 }

@@ -1,134 +1,205 @@
--- The whole list: what is left to replay from here gives the verdict of the whole; and the tests before it.
-use Rattle.std.specs.Prelude.{if◌then◌else◌}
-use Prim.Native.Nat.{ℕ, zero, suc, ◌+◌, ◌-◌, ◌*◌, ◌%◌, ◌≤◌, ◌<◌, min}
-use native.Mathlib.Omega.{arith}
-use native.Mathlib.Numerals.{add-one}
-use mathlib.Core.Path.{◌≡◌, refl, ap, sym, ◌∙◌}
-use mathlib.Core.Bool.{Bool, true, false}
-use mathlib.Core.List.{List, ◌∷◌}
-use lib.ListN.{length, get_or, drop, take, take-append-drop, drop_of_length-le}
-use lib.Seq.{drop-cons, drop-drop, length-take-le}
-use borrow.Author.Tests.{le-ltb, ne_eqb}
-use Rattle.scope.proofs.JobCodes.{Passes, passes}
+-- The whole list: what is left to replay from here gives the verdict of the whole.
+use Rattle.std.proofs.Common.{ℕ, zero, suc, ◌+◌, ◌%◌, ◌≤◌, ◌<◌, ◌≡◌, refl, ap, sym, ◌∙◌, arith, Bool, true, false}
+use Rattle.std.proofs.Common.{List, [], ◌∷◌, length, get_or, take, drop, take-append-drop, length-take-le, take-suc-set, drop-set-lt, length-set, drop-drop, add-one}
+use Rattle.std.proofs.Common.{Option, None as none, Some as some, Result, Ok, Err, eq-eqb, leb-false, le-ltb, eqb, leb, if◌then◌else◌}
+use Rattle.scope.specs.declared.Op.{Op}
+use Rattle.scope.specs.declared.Op.TheVariants.{Swap, Dup, Pop, Store, Load}
+use Rattle.scope.specs.declared.Refusal.{Refusal}
+use Rattle.scope.specs.Codes as codes
 use Rattle.scope.specs.Words.{if_zero, same_list}
-use Rattle.scope.specs.Machine.{over}
+use Rattle.scope.specs.Machine.{over, stack_after, spilled_after, more_gas}
+use Rattle.scope.specs.Rules.{Job}
 use Rattle.scope.specs.Shuffle.{job_code}
-use Rattle.scope.specs.Replay.{Verdict, verdict, replay_from, replay}
-use Rattle.scope.specs.Stack.{fifo, Left, made_from}
-use Rattle.scope.specs.Once.{Lent, job_lent, SeenVerdict, seen_verdict, check_due}
-use Rattle.stack.specs.Promises.{Leaves, blank}
+use Rattle.scope.specs.Replay.{replay, Verdict, verdict, decoded, op_fault, fault, replay_from}
+use Rattle.scope.specs.Once.{Lent, job_lent, seen_verdict, check_due}
 use Rattle.reader.specs.declared.Record.{Record}
-use Rattle.reader.specs.Promises.{record_at}
-use Rattle.replay.specs.declared.Limits.{Limits}
-use Rattle.replay.specs.declared.Turn.{Turn}
+use Rattle.reader.specs.Promises.{records}
+use Rattle.replay.specs.declared.Fault.{Fault}
+use Rattle.replay.specs.declared.Fault.TheVariants as faults
+use Rattle.replay.specs.declared.Replay.{Replay}
+use Rattle.replay.specs.Faults.{number_of, code_of}
+use Rattle.scope.specs.Words.{Stack}
+use Rattle.scope.specs.Stack.{made_from}
+use Rattle.stack.specs.declared.EvmStack.{EvmStack}
+use Rattle.stack.specs.Promises.{stack_in, values_in}
 use Rattle.replay.specs.declared.Verdict.{Verdict as Answer}
-use Rattle.replay.specs.Promises.{answered, seen, lent_to, replay_due, Fits, OnSlots}
+use Rattle.replay.specs.Promises.{lent_now, answered, seen, seen_now, replay_due, values_now, slots_now, job_of, filled_after, spill_after, SameRun}
 
--- ---- the loop
+-- ---- the words of records
+
+abbrev pub words_in : List Record → List ℕ
+words_in [] = []
+words_in (x ∷ xs) = x.kind ∷ x.argument ∷ words_in xs
+
+pub words-records : (ws : List ℕ) → length ws % 2 ≡ 0 → words_in (records ws) ≡ ws
+words-records [] h = refl
+words-records (k ∷ []) h = absurd (omega (arith, h))
+words-records (k ∷ a ∷ ws) h = ap (λ (l : List ℕ). k ∷ a ∷ l) (words-records ws (omega (arith, h)))
+
+pub length-records : (ws : List ℕ) → length (records ws) ≤ length ws
+length-records [] = omega arith
+length-records (k ∷ []) = omega arith
+length-records (k ∷ a ∷ ws) = let h = length-records ws in omega arith
+
+-- ---- a fault has a code
+
+refusal-code : (r : Refusal) → codes.number_of r ≡ 0 → ⊥
+refusal-code r h = grind arith
+
+fault-code : (f : Fault) → number_of f ≡ 0 → ⊥
+fault-code f h = grind (arith, refusal-code)
 
 if-not-zero : (r : ℕ) (x y : Verdict) → (r ≡ 0 → ⊥) → if_zero r x y ≡ y
 if-not-zero zero x y ne = absurd (ne refl)
 if-not-zero (suc r) x y ne = refl
 
--- a verdict whose slots are a buffer's first words, where the buffer beyond them is as it was lent
-seen-is : (e : Lent) (v : Answer) (r i g filled : ℕ) (spill : List ℕ) → v ≡ answered r i g filled → filled ≤ length spill → drop filled spill ≡ drop filled e.spill
-    → seen v spill ≡ seen_verdict (verdict r i g (take filled spill)) e
-seen-is e v r i g filled spill u h b =
-    let n : length (take filled spill) ≡ filled = length-take-le filled spill h in
-    let s : over (take filled spill) e.spill ≡ spill = rw (n, ← b) (take-append-drop filled spill) in
-    rw (u, s, n)
+-- ---- a replay on its way
 
--- The list has been replayed up to the i-th record: what is left gives the verdict of the whole. spill₀ is the buffer as it was lent.
-pub record Replaying (e : Lent) (raw spill : List ℕ) (len filled gas i : ℕ) : Type 0 where
-  pub slots : length spill ≡ length e.spill
-  pub inside : filled ≤ length spill
-  pub beyond : drop filled spill ≡ drop filled e.spill
-  pub rest : replay_from (job_lent e) (fifo raw len) (take filled spill) i gas (drop (2 * i) e.words) ≡ replay_from (job_lent e) e.stack.values (take e.filled e.spill) 0 0 e.words
+-- The list has been replayed up to here: what is left gives the verdict of the whole.
+pub record Replaying (e : Lent) (r : Replay) (ws : List Record) : Type 0 where
+  pub swaps : e.S ≡ r.config.max_swap_depth
+  pub dups : e.D ≡ r.config.max_dup_depth
+  pub first : e.first ≡ r.first
+  pub slots : length r.spill.now ≡ length e.spill
+  pub inside : r.filled ≤ length r.spill.now
+  pub beyond : drop r.filled r.spill.now ≡ drop r.filled e.spill
+  pub count : r.index + length ws ≤ length e.words
+  pub rest : replay_from (job_lent e) (values_now r) (slots_now r) r.index r.gas (words_in ws) ≡ replay_from (job_lent e) e.stack.values (take e.filled e.spill) 0 0 e.words
 
-module _ (start spill₀ target words : List ℕ) (p : Limits) (stored : ℕ) where
-  abbrev e : Lent
-  e = lent_to start spill₀ stored p.first target p.max_swap_depth p.max_dup_depth words
+-- a verdict whose slots are the replay's, where the buffer beyond them is as it was lent
+seen-is : (e : Lent) (r : Replay) (outcome : Result Unit Fault) → r.filled ≤ length r.spill.now → drop r.filled r.spill.now ≡ drop r.filled e.spill
+    → seen_now outcome r ≡ seen_verdict (verdict (code_of outcome) r.index r.gas (slots_now r)) e
+seen-is e r outcome h b =
+    let n : length (slots_now r) ≡ r.filled = length-take-le r.filled r.spill.now h in
+    let s : over (slots_now r) e.spill ≡ r.spill.now = rw (n, ← b) (take-append-drop r.filled r.spill.now) in
+    rw (s, n)
 
-  fits : (slots : ℕ) → slots ≡ length spill₀ → Fits p slots (job_lent e)
-  fits slots q = record { swaps = refl; dups = refl; first = refl; slots = sym q }
+-- a start that is laid into the stack
+laid-start : (start : List ℕ) (s : EvmStack) → length start ≤ 1024 → stack_in s ≡ (made_from start).stack → values_in s ≡ start
+unfolding made_from
+laid-start start s h q = ap (λ (x : Stack). x.values) (rw (le-ltb 1024 (length start) h) at q)
 
-  module _ (raw spill : List ℕ) (len filled gas i : ℕ) (now : Replaying e raw spill len filled gas i) where
-    -- the record that stands here
-    module _ (x : Record) (read : x ≡ record_at words (2 * i)) (more : 2 * i + 1 < length words) (r : Turn) (raw' spill' : List ℕ)
-        (one : OnSlots p x.kind x.argument (fifo raw len) spill filled r raw' spill') where
-      here : drop (2 * i) words ≡ get_or words (2 * i) 0 ∷ get_or words (2 * i + 1) 0 ∷ drop (2 * (i + 1)) words
-      here =
-          let a : 2 * i < length words = omega arith in
-          let n : 2 * (i + 1) ≡ suc (2 * i + 1) = omega arith in
-          let s : 2 * i + 1 ≡ suc (2 * i) = omega arith in
-          rw (drop-cons words (2 * i) 0 a, n) (rw s (ap (λ (l : List ℕ). get_or words (2 * i) 0 ∷ l) (drop-cons words (suc (2 * i)) 0 (rw s at more))))
+pub begins : (start : List ℕ) (r : Replay) (target words : List ℕ) (ws : List Record) → length start ≤ 1024 → r.filled ≤ length r.spill.now → r.index ≡ 0 → r.gas ≡ 0
+    → length words % 2 ≡ 0 → stack_in r.stack.now ≡ (made_from start).stack → ws ≡ records words
+    → Replaying (lent_now r start target words) r ws
+begins start r target words ws h f i g even s q =
+    record {
+      swaps = refl;
+      dups = refl;
+      first = refl;
+      slots = refl;
+      inside = f;
+      beyond = refl;
+      count = let n = length-records words in rw q (omega (arith, i));
+      rest = rw (q, words-records words even, laid-start start r.stack.now h s, i, g);
+    }
 
-      turn : if_zero r.code (replay_from (job_lent e) (fifo raw' r.len) (take r.filled spill') (suc i) (min 18446744073709551615 (gas + r.gas)) (drop (2 * (i + 1)) words)) (verdict r.code i gas (take r.filled spill'))
-          ≡ replay_from (job_lent e) start (take stored spill₀) 0 0 words
-      turn = sym (rw read at (one.turned.leads (job_lent e) (fits (length spill) now.slots) i gas (drop (2 * (i + 1)) words))) ∙ rw (← here) now.rest
+-- the list is whole
+pub due-even : (e : Lent) → length e.words % 2 ≡ 0 → replay_due e ≡ seen_verdict (replay_from (job_lent e) e.stack.values (take e.filled e.spill) 0 0 e.words) e
+unfolding replay_due
+due-even e even = rw (eq-eqb (length e.words % 2) 0 even)
 
-      drops : drop r.filled spill' ≡ drop r.filled spill₀
-      drops =
-          let more' = r.filled - filled in
-          let q : filled + more' ≡ r.filled = omega (arith, one.grows) in
-          one.beyond ∙ rw q at (sym (drop-drop more' filled spill) ∙ ap (drop more') now.beyond ∙ drop-drop more' filled spill₀)
+-- no record is left
+pub ends : (e : Lent) (r : Replay) (ws : List Record) → Replaying e r ws → ws ≡ [] → (outcome : Result Unit Fault)
+    → (b : Bool) → b ≡ same_list (values_now r) e.target → code_of outcome ≡ (if b then 0 else 41)
+    → seen_now outcome r ≡ seen_verdict (replay_from (job_lent e) e.stack.values (take e.filled e.spill) 0 0 e.words) e
+unfolding replay_from
+ends e r ws now q outcome b s c =
+    seen-is e r outcome now.inside now.beyond ∙ rw (c, ← now.rest, q, s)
 
-      pub turn-again : (g : ℕ) → r.code ≡ 0 → g ≡ min 18446744073709551615 (gas + r.gas) → Replaying e raw' spill' r.len r.filled g (i + 1)
-      turn-again g z q =
-          record {
-            slots = one.slots ∙ now.slots;
-            inside = omega (arith, one.slots, one.inside);
-            beyond = drops;
-            rest = rw (q, add-one i) (rw (z, add-one i) at turn);
-          }
+-- ---- one record
 
-      pub turn-refused : (v : Answer) → v ≡ answered r.code i gas r.filled → (r.code ≡ 0 → ⊥) → seen v spill' ≡ replay_due e
-      unfolding replay_due
-      turn-refused v u ne =
-          seen-is e v r.code i gas r.filled spill' u (omega (arith, one.slots, one.inside)) drops
-          ∙ ap (λ (v : Verdict). seen_verdict v e) (sym (if-not-zero r.code _ (verdict r.code i gas (take r.filled spill')) ne) ∙ turn)
+-- a store has a slot to fill
+room : (a b c : Bool) → ◌≡◌ {A = ℕ} 0 (if a then 37 else (if b then (if c then 39 else 0) else 38)) → c ≡ false
+room true b c h = absurd (omega (arith, h))
+room false true true h = absurd (omega (arith, h))
+room false true false h = refl
+room false false c h = absurd (omega (arith, h))
 
-    -- no record is left
-    module _ (out : length words ≤ 2 * i) where
-      ended : (b : Bool) → same_list (fifo raw len) target ≡ b → verdict (if b then 0 else 41) i gas (take filled spill) ≡ replay_from (job_lent e) start (take stored spill₀) 0 0 words
-      unfolding replay_from
-      ended b q = rw (drop_of_length-le words out, q) at now.rest
+-- the slots and the words after an operation
+record Slots (o : Op) (l spill spill₀ : List ℕ) (filled filled' : ℕ) (spill' : List ℕ) : Type 0 where
+  pub long : length spill' ≡ length spill
+  pub inside : filled' ≤ length spill'
+  pub beyond : drop filled' spill' ≡ drop filled' spill₀
+  pub slots : take filled' spill' ≡ spilled_after o (take filled spill) l
 
-      pub turn-target : (v : Answer) (b : Bool) → v ≡ answered 0 i gas filled → b ≡ same_list (fifo raw len) target → b ≡ true → seen v spill ≡ replay_due e
-      unfolding replay_due
-      turn-target v b u q t = seen-is e v 0 i gas filled spill u now.inside now.beyond ∙ ap (λ (v : Verdict). seen_verdict v e) (ended true (sym q ∙ t))
+module _ (l spill spill₀ : List ℕ) (filled : ℕ) (inside : filled ≤ length spill) (beyond : drop filled spill ≡ drop filled spill₀) where
+  fills : (j : Job) (o : Op) → j.slots ≡ length spill → 0 ≡ op_fault j l filled o
+      → Slots o l spill spill₀ filled (filled_after (Ok o) filled) (spill_after (Ok o) filled l spill)
+  fills j (Swap k) e z = record { long = refl; inside = inside; beyond = beyond; slots = refl }
+  fills j (Dup k) e z = record { long = refl; inside = inside; beyond = beyond; slots = refl }
+  fills j Pop e z = record { long = refl; inside = inside; beyond = beyond; slots = refl }
+  fills j (Load id) e z = record { long = refl; inside = inside; beyond = beyond; slots = refl }
+  fills j (Store id) e z =
+      let h : filled < length spill = rw e at (leb-false j.slots filled (room (eqb (length l) 0) (eqb id (j.first + filled)) (leb j.slots filled) z)) in
+      record {
+        long = length-set spill filled (get_or l 0 0);
+        inside = rw (length-set spill filled (get_or l 0 0)) (omega (arith, h));
+        beyond = drop-set-lt (filled + 1) spill filled (get_or l 0 0) (omega arith) ∙ sym (drop-drop 1 filled spill) ∙ ap (drop 1) beyond ∙ drop-drop 1 filled spill₀;
+        slots = rw (add-one filled) (take-suc-set spill filled (get_or l 0 0) h);
+      }
 
-      pub turn-unlike : (v : Answer) (b : Bool) → v ≡ answered 41 i gas filled → b ≡ same_list (fifo raw len) target → b ≡ false → seen v spill ≡ replay_due e
-      unfolding replay_due
-      turn-unlike v b u q t = seen-is e v 41 i gas filled spill u now.inside now.beyond ∙ ap (λ (v : Verdict). seen_verdict v e) (ended false (sym q ∙ t))
+module _ (e : Lent) (r : Replay) (x : Record) (ws : List Record) (now : Replaying e r (x ∷ ws)) where
+  abbrev d : Option Op
+  d = decoded x.kind x.argument
+
+  -- the target and the room are no matter to a fault
+  same-fault : (l : List ℕ) (m : ℕ) (d : Option Op) → fault (job_lent e) l m d ≡ fault (job_of r) l m d
+  same-fault l m none = refl
+  same-fault l m (some (Swap k)) = rw now.swaps
+  same-fault l m (some (Dup k)) = rw now.dups
+  same-fault l m (some Pop) = refl
+  same-fault l m (some (Store id)) = rw (now.first, now.slots)
+  same-fault l m (some (Load id)) = rw now.first
+
+  module _ (r' : Replay) (same : SameRun r r') where
+    pub refused : (f : Fault) → number_of f ≡ fault (job_of r) (values_now r) (length (slots_now r)) d → r'.filled ≡ r.filled → r'.spill.now ≡ r.spill.now
+        → seen_now (Err f) r' ≡ seen_verdict (replay_from (job_lent e) e.stack.values (take e.filled e.spill) 0 0 e.words) e
+    unfolding replay_from
+    refused f c n s =
+        let k : fault (job_lent e) (values_now r) (length (slots_now r)) d ≡ number_of f = same-fault (values_now r) (length (slots_now r)) d ∙ sym c in
+        let v = verdict (number_of f) r.index r.gas (slots_now r) in
+        let stop : v ≡ replay_from (job_lent e) e.stack.values (take e.filled e.spill) 0 0 e.words =
+        sym (if-not-zero (number_of f) _ v (fault-code f)) ∙ rw k at now.rest in
+        seen-is e r' (Err f) (rw (n, s) now.inside) (rw (n, s) now.beyond) ∙ rw (same.index, same.gas, n, s) (ap (λ (v : Verdict). seen_verdict v e) stop)
+
+    pub done : (o : Op) → 0 ≡ fault (job_of r) (values_now r) (length (slots_now r)) d → d ≡ some o
+        → values_now r' ≡ stack_after r.first o (slots_now r) (values_now r)
+        → r'.filled ≡ filled_after (Ok o) r.filled → r'.spill.now ≡ spill_after (Ok o) r.filled (values_now r) r.spill.now
+        → (r'' : Replay) → r''.stack ≡ r'.stack → r''.spill ≡ r'.spill → r''.first ≡ r'.first → r''.config ≡ r'.config → r''.filled ≡ r'.filled
+        → r''.index ≡ r'.index + 1 → r''.gas ≡ more_gas r'.gas o
+        → Replaying e r'' ws
+    unfolding replay_from
+    done o c q t n s r'' a b c' d' f g h =
+        let fits : length (slots_now r) ≡ r.filled = length-take-le r.filled r.spill.now now.inside in
+        let z : 0 ≡ op_fault (job_of r) (values_now r) (length (slots_now r)) o = rw q at c in
+        let k : fault (job_lent e) (values_now r) (length (slots_now r)) (some o) ≡ 0 = same-fault (values_now r) (length (slots_now r)) (some o) ∙ sym z in
+        let w = fills (values_now r) r.spill.now e.spill r.filled now.inside now.beyond (job_of r) o refl (rw fits at z) in
+        record {
+          swaps = rw (d', same.config) now.swaps;
+          dups = rw (d', same.config) now.dups;
+          first = rw (c', same.first) now.first;
+          slots = rw (b, s) (w.long ∙ now.slots);
+          inside = rw (b, f, n, s) w.inside;
+          beyond = rw (b, f, n, s) w.beyond;
+          count = let i = same.index in let j = now.count in omega arith;
+          rest = let turned = rw (q, k) at now.rest in rw (a, b, f, g, h, t, n, s, w.slots, same.index, same.gas, ← now.first, add-one) turned;
+        }
 
 -- ---- the entry
 
-module _ (start spill target words : List ℕ) (filled first S D : ℕ) where
-  abbrev lent : Lent
-  lent = lent_to start spill filled first target S D words
+module _ (e : Lent) where
+  -- a job that is refused, and one that is not
+  pub check-job : (v : Answer) (f : Fault) (r : Refusal) → v ≡ answered (Err f) 0 0 0 → f ≡ faults.Job r
+      → codes.number_of r ≡ job_code e.S e.stack.height (length e.target) e.filled (length e.spill) e.first → seen v e.spill ≡ check_due e
+  unfolding check_due replay
+  check-job v f r u q c = rw (u, q) (go (codes.number_of r) refl)
+    where
+      go : (n : ℕ) → codes.number_of r ≡ n → seen (answered (Err (faults.Job r)) 0 0 0) e.spill ≡ check_due e
+      go zero z = absurd (refusal-code r z)
+      go (suc n) z = rw (← c, z)
 
-  module _ (code : ℕ) (is : code ≡ job_code S (length start) (length target) filled (length spill) first) where
-    pub check-job : (v : Answer) → v ≡ answered code 0 0 0 → (code ≡ 0 → ⊥) → seen v spill ≡ check_due lent
-    unfolding check_due replay
-    check-job v u ne = rw u (go code refl)
-      where
-        go : (r : ℕ) → r ≡ code → seen (answered code 0 0 0) spill ≡ check_due lent
-        go zero q = absurd (ne (sym q))
-        go (suc r) q = rw (← is, ← q)
-
-    module _ (z : code ≡ 0) where
-      bounds : Passes S (length start) (length target) filled (length spill) first
-      bounds = passes S (length start) (length target) filled (length spill) first (sym is ∙ z)
-
-      pub check-odd : (v : Answer) → v ≡ answered 30 0 0 filled → (length words % 2 ≡ 0 → ⊥) → seen v spill ≡ check_due lent
-      unfolding check_due replay
-      check-odd v u ne = rw (← is, z, ne_eqb (length words % 2) 0 ne) (seen-is lent v 30 0 0 filled spill u bounds.stored refl)
-
-      -- the start as it is laid into the array
-      pub check-run : (made len : ℕ) (raw : List ℕ) (v : SeenVerdict) → length words % 2 ≡ 0 → Leaves (made_from start) made len blank raw
-          → v ≡ replay_due (lent_to (fifo raw len) spill filled first target S D words) → v ≡ check_due lent
-      unfolding check_due replay replay_due made_from
-      check-run made len raw v w l q =
-          let values : fifo raw len ≡ start = ap (λ (x : Left). x.stack.values) (rw (le-ltb 1024 (length start) bounds.start) at l.answer) in
-          q ∙ rw (values, ← is, z, w)
+  pub check-run : (outcome : Result Unit Fault) (r : Replay) (spill : List ℕ) → 0 ≡ job_code e.S e.stack.height (length e.target) e.filled (length e.spill) e.first
+      → seen_now outcome r ≡ replay_due e → spill ≡ r.spill.now → seen (answered outcome r.index r.gas r.filled) spill ≡ check_due e
+  unfolding check_due replay replay_due
+  check-run outcome r spill z q s = rw s (q ∙ rw (← z))

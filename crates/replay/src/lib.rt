@@ -1,360 +1,324 @@
 // The replay checker: a list of operation words, from anywhere, is replayed on a start stack; the first fault is the verdict.
 #![tactic(auto)]
 
-ghost use Rattle.std.specs.Prelude.{◌≡◌, ◌+◌, ◌≤◌, ◌%◌, min, length};
-ghost use Rattle.scope.specs.Words.{same_list};
-ghost use Rattle.scope.specs.Machine.{record_words};
-ghost use Rattle.scope.specs.Codes.{MAX-WORD, MAX-GAS};
+ghost use Rattle.std.specs.Prelude.{◌≡◌, ◌≤◌, length, IfOk, nat_lt, if◌then◌else◌, Some as some, None as none};
+ghost use Rattle.scope.specs.Codes.{code};
+ghost use Rattle.scope.specs.Machine.{more_gas, stack_after};
+ghost use Rattle.scope.specs.Replay.{decoded, fault};
 ghost use Rattle.scope.specs.Shuffle.{job_code};
-ghost use Rattle.scope.specs.Stack.{fifo};
 ghost use Rattle.scope.specs.Once.{check_due};
-ghost use Rattle.replay.specs.Promises.{lent_to, seen, refusal, answered, OnStack, OnSlots, replay_due};
+ghost use Rattle.replay.specs.Faults.{number_of, code_of};
+ghost use Rattle.replay.specs.Promises.{seen, lent_to, lent_now, seen_now, replay_due, filled_after, spill_after};
+ghost use Rattle.replay.specs.Promises.{SameLoans, SameRun, Plays, job_of, values_now, slots_now, slot_at};
 
-use operations::gas_of;
-use reader::read_at;
-use scope::{Op, Word};
+use operations::ScheduleConfig;
+use reader::{Reader, Record};
+use scope::{Op, Refusal};
 use stack::EvmStack;
 
-// The code, the index of the operation at fault (their count where there is none), the gas of those replayed, the slots filled.
-#[repr(C)]
-#[derive(Clone, Copy)]
+/// Why a list of operations is refused. Each fault has a code, which is what C sees.
+#[derive(Clone, Copy, Debug, PartialEq, Eq)]
+pub enum Fault {
+    /// The job itself is refused.
+    Job(Refusal),
+    /// The words are not whole records.
+    Odd,
+    /// A record is no operation.
+    Unknown,
+    /// The depth of a swap is 0 or past the limit.
+    SwapFar,
+    /// The depth of a swap is outside the stack.
+    SwapBelow,
+    /// The depth of a dup is past the limit.
+    DupFar,
+    /// The depth of a dup is outside the stack.
+    DupBelow,
+    /// The stack has 1,024 values and would grow.
+    TooHigh,
+    /// There is no value to take off.
+    NoneLeft,
+    /// A store does not name the next slot.
+    OtherSlot,
+    /// There is no next slot.
+    NoSlot,
+    /// The slot of a load is not filled.
+    NotFilled,
+    /// The stack at the end is not the target.
+    Unlike,
+}
+
+impl Fault {
+    /// The code that C and the trace see: 1 to 5 for a job that is refused, 30 to 41 for the list.
+    pub fn code(self) -> u32
+        ensures { result ≡ number_of self }
+    {
+        match self {
+            Fault::Job(refusal) => refusal.code(),
+            Fault::Odd => 30,
+            Fault::Unknown => 31,
+            Fault::SwapFar => 32,
+            Fault::SwapBelow => 33,
+            Fault::DupFar => 34,
+            Fault::DupBelow => 35,
+            Fault::TooHigh => 36,
+            Fault::NoneLeft => 37,
+            Fault::OtherSlot => 38,
+            Fault::NoSlot => 39,
+            Fault::NotFilled => 40,
+            Fault::Unlike => 41,
+        }
+    }
+}
+
+impl From<Refusal> for Fault {
+    ghost use Rattle.replay.specs.declared.Fault.TheVariants.{Job};
+
+    ghost from_gives = { λ refusal fault. fault ≡ Job refusal };
+
+    fn from(refusal: Refusal) -> Self {
+        Self::Job(refusal)
+    }
+}
+
+/// What the checker finds: the first fault, if there is one; the index of its operation, or their count where there is none; the gas of
+/// the operations before it; the slots that are filled then.
+#[derive(Clone, Copy, Debug, PartialEq, Eq)]
 pub struct Verdict {
-    pub code: u32,
+    pub outcome: Result<(), Fault>,
     pub index: usize,
     pub gas: u64,
     pub filled: usize,
 }
 
-// The numbers that bound an operation.
-#[derive(Clone, Copy)]
-pub(crate) struct Limits {
-    pub(crate) max_swap_depth: u8,
-    pub(crate) max_dup_depth: u8,
-    pub(crate) first: u32,
+impl Verdict {
+    /// The code of the outcome, 0 where there is no fault.
+    pub fn code(self) -> u32
+        ensures { result ≡ code_of self.outcome }
+    {
+        match self.outcome {
+            Ok(()) => 0,
+            Err(fault) => fault.code(),
+        }
+    }
 }
 
-// What one operation comes to: a code, the stack's length and the slots filled after it, its gas.
-#[derive(Clone, Copy)]
-pub(crate) struct Turn {
-    pub(crate) code: u32,
-    pub(crate) len: u16,
+/// A replay on its way: the stack and the slots, of which the first `filled` are, the limits, and how many operations of how much gas it
+/// has replayed.
+#[derive(Drop)]
+pub(crate) struct Replay<'a> {
+    pub(crate) stack: &'a mut EvmStack,
+    pub(crate) spill: &'a mut [u32],
+    pub(crate) first: u32,
     pub(crate) filled: usize,
+    pub(crate) config: ScheduleConfig,
+    pub(crate) index: usize,
     pub(crate) gas: u64,
 }
 
-// A record that is refused leaves the stack and the slots, and has no gas.
-fn refused(code: u32, len: u16, filled: usize) -> Turn
-    ensures { result ≡ refusal code len filled }
+/// An argument as a depth, where a limit lets it through.
+fn within(argument: u32, limit: u8) -> Option<u8>
+    ensures { result ≡ (if nat_lt limit argument then none else some argument) }
 {
-    Turn {
-        code,
-        len,
-        filled,
-        gas: 0,
-    }
+    u8::try_from(argument).ok().filter(|depth| *depth <= limit)
 }
 
-// The verdict of its four numbers.
-fn answer(code: u32, index: usize, gas: u64, filled: usize) -> Verdict
-    ensures { result ≡ answered code index gas filled }
+/// The gas with one operation more: a sum that stays at the largest `u64`.
+fn more_gas(gas: u64, op: Op) -> u64
+    ensures { result ≡ more_gas gas op }
 {
-    Verdict {
-        code,
-        index,
-        gas,
-        filled,
-    }
+    gas.saturating_add(op.gas())
 }
 
-// Codes 1 to 5, in that order; 0 for none of them.
-fn job_code(
-    max_swap_depth: u8,
-    height: usize,
-    target: usize,
-    filled: usize,
-    slots: usize,
-    first: u32,
-) -> u32
-    ensures { result ≡ job_code max_swap_depth height target filled slots first }
-{
-    if max_swap_depth == 0 {
-        return 1;
+impl Replay<'_> {
+    /// Whether there is such a job, for a start and a target of these heights.
+    fn check_job(&self, start: usize, target: usize) -> Result<(), Refusal>
+        ensures { code result
+            ≡ job_code self.now.config.max_swap_depth start target self.now.filled (length self.now.spill.now) self.now.first }
+    {
+        if self.config.max_swap_depth == 0 {
+            return Err(Refusal::Limit);
+        }
+        if 1024 < start {
+            return Err(Refusal::Start);
+        }
+        if 1024 < target {
+            return Err(Refusal::Target);
+        }
+        if self.spill.len() < self.filled {
+            return Err(Refusal::Filled);
+        }
+        if ((u32::MAX - self.first) as usize) < self.spill.len() {
+            return Err(Refusal::Slots);
+        }
+        Ok(())
     }
-    if 1024 < height {
-        return 2;
-    }
-    if 1024 < target {
-        return 3;
-    }
-    if slots < filled {
-        return 4;
-    }
-    let last = 4294967295 - first as usize;
-    if last < slots {
-        return 5;
-    }
-    0
-}
 
-// A sum that stays at the largest `u64`.
-fn more_gas(gas: u64, more: u64) -> u64
-    ensures { result ≡ min MAX-GAS (gas + more) }
-{
-    let room = 18446744073709551615 - gas;
-    if room < more {
-        18446744073709551615
-    } else {
-        gas + more
+    /// Kind 1: depths 0 and `argument` exchanged.
+    #[tactic(auto, unfolding(scope::specs::Stack::exchange_on))]
+    fn swap(&mut self, argument: u32) -> Result<Op, Fault>
+        ensures { Plays (Op.Swap argument) result self.old self.new }
+    {
+        if argument == 0 {
+            return Err(Fault::SwapFar);
+        }
+        let depth = within(argument, self.config.max_swap_depth).ok_or(Fault::SwapFar)?;
+        self.stack
+            .swap_with_top(depth.into())
+            .map_err(|_| Fault::SwapBelow)?;
+        Ok(Op::Swap(depth))
     }
-}
 
-// Kind 1: 32, 33, or depths 0 and `argument` exchanged.
-fn replay_swap(
-    raw: &mut [u32; 1024],
-    len: u16,
-    filled: usize,
-    limits: Limits,
-    argument: u32,
-) -> Turn
-    ensures { OnStack limits 1 argument (fifo raw.old len) filled result raw.new }
-{
-    let height = stack::height(raw, len);
-    if argument == 0 {
-        return refused(32, len, filled);
-    }
-    if (limits.max_swap_depth as u32) < argument {
-        return refused(32, len, filled);
-    }
-    if height <= argument as usize {
-        return refused(33, len, filled);
-    }
-    let depth = argument as u8;
-    let swapped = stack::exchange_in(raw, len, 0, depth as u16);
-    Turn {
-        code: 0,
-        len: swapped.len,
-        filled,
-        gas: gas_of(Op::Swap(depth)),
-    }
-}
-
-// Kind 2: 34, 35, 36, or a copy of the value at depth `argument` on top.
-fn replay_dup(raw: &mut [u32; 1024], len: u16, filled: usize, limits: Limits, argument: u32) -> Turn
-    ensures { OnStack limits 2 argument (fifo raw.old len) filled result raw.new }
-{
-    let height = stack::height(raw, len);
-    if (limits.max_dup_depth as u32) < argument {
-        return refused(34, len, filled);
-    }
-    if height <= argument as usize {
-        return refused(35, len, filled);
-    }
-    if height < 1024 {
-        let depth = argument as u8;
-        let higher = stack::duplicate_in(raw, len, depth as u16);
-        return Turn {
-            code: 0,
-            len: higher.len,
-            filled,
-            gas: gas_of(Op::Dup(depth)),
-        };
-    }
-    refused(36, len, filled)
-}
-
-// Kind 3: 31 where there is an argument, 37, or the top dropped.
-fn replay_pop(raw: &[u32; 1024], len: u16, filled: usize, limits: Limits, argument: u32) -> Turn
-    ensures { OnStack limits 3 argument (fifo raw.now len) filled result raw.now }
-{
-    let height = stack::height(raw, len);
-    if argument != 0 {
-        return refused(31, len, filled);
-    }
-    if height == 0 {
-        return refused(37, len, filled);
-    }
-    let lower = stack::pop_in(raw, len);
-    Turn {
-        code: 0,
-        len: lower.len,
-        filled,
-        gas: gas_of(Op::Pop),
-    }
-}
-
-// Kind 4: 37, 38, 39, or the top moved into the next slot.
-fn replay_store(
-    raw: &[u32; 1024],
-    len: u16,
-    spill: &mut [u32],
-    filled: usize,
-    limits: Limits,
-    argument: u32,
-) -> Turn
-    requires { (filled ≤ length spill.old) × (limits.first + length spill.old ≤ MAX-WORD) }
-    ensures { OnSlots limits 4 argument (fifo raw.now len) spill.old filled result raw.now spill.new }
-{
-    let taken = stack::pop_in(raw, len);
-    let value = taken.value;
-    match value {
-        Word::Nothing => refused(37, len, filled),
-        Word::Is(top) => {
-            if argument as usize != limits.first as usize + filled {
-                return refused(38, len, filled);
-            }
-            if spill.len() <= filled {
-                return refused(39, len, filled);
-            }
-            spill[filled] = top;
-            Turn {
-                code: 0,
-                len: taken.len,
-                filled: filled + 1,
-                gas: gas_of(Op::Store(argument)),
-            }
+    /// Kind 2: a copy of the value at depth `argument` on top.
+    #[tactic(auto, unfolding(scope::specs::Stack::duplicate_on, scope::specs::Stack::push_on))]
+    fn dup(&mut self, argument: u32) -> Result<Op, Fault>
+        ensures { Plays (Op.Dup argument) result self.old self.new }
+    {
+        let depth = within(argument, self.config.max_dup_depth).ok_or(Fault::DupFar)?;
+        match self.stack.duplicate(depth.into()) {
+            Ok(()) => Ok(Op::Dup(depth)),
+            Err(Refusal::Full) => Err(Fault::TooHigh),
+            Err(_) => Err(Fault::DupBelow),
         }
     }
-}
 
-// Kind 5: 36, 40, or the value of slot `argument` on top.
-fn replay_load(
-    raw: &mut [u32; 1024],
-    len: u16,
-    spill: &[u32],
-    filled: usize,
-    limits: Limits,
-    argument: u32,
-) -> Turn
-    requires { (filled ≤ length spill.now) × (limits.first + length spill.now ≤ MAX-WORD) }
-    ensures { OnSlots limits 5 argument (fifo raw.old len) spill.now filled result raw.new spill.now }
-{
-    let height = stack::height(raw, len);
-    if 1024 <= height {
-        return refused(36, len, filled);
+    /// Kind 3: the top dropped.
+    #[tactic(auto, unfolding(scope::specs::Stack::pop_on))]
+    fn pop(&mut self) -> Result<Op, Fault>
+        ensures { Plays Op.Pop result self.old self.new }
+    {
+        self.stack.pop().ok_or(Fault::NoneLeft)?;
+        Ok(Op::Pop)
     }
-    if argument < limits.first {
-        return refused(40, len, filled);
-    }
-    let slot = (argument - limits.first) as usize;
-    if slot < filled {
-        let higher = stack::push_in(raw, len, spill[slot]);
-        return Turn {
-            code: 0,
-            len: higher.len,
-            filled,
-            gas: gas_of(Op::Load(argument)),
-        };
-    }
-    refused(40, len, filled)
-}
 
-// One record by its kind; 31 where there is no such kind.
-fn replay_one(
-    raw: &mut [u32; 1024],
-    len: u16,
-    spill: &mut [u32],
-    filled: usize,
-    limits: Limits,
-    kind: u32,
-    argument: u32,
-) -> Turn
-    requires { (filled ≤ length spill.old) × (limits.first + length spill.old ≤ MAX-WORD) }
-    ensures { OnSlots limits kind argument (fifo raw.old len) spill.old filled result raw.new spill.new }
-{
-    if kind == 1 {
-        return replay_swap(raw, len, filled, limits, argument);
+    /// The values of the filled slots, oldest first.
+    fn slots(&self) -> &[u32]
+        ensures { result.now ≡ slots_now self.now }
+    {
+        &self.spill[..self.filled.min(self.spill.len())]
     }
-    if kind == 2 {
-        return replay_dup(raw, len, filled, limits, argument);
-    }
-    if kind == 3 {
-        return replay_pop(raw, len, filled, limits, argument);
-    }
-    if kind == 4 {
-        return replay_store(raw, len, spill, filled, limits, argument);
-    }
-    if kind == 5 {
-        return replay_load(raw, len, spill, filled, limits, argument);
-    }
-    refused(31, len, filled)
-}
 
-// Whether the stack is the target.
-fn is_target(raw: &[u32; 1024], len: u16, target: &[u32]) -> bool
-    ensures { result ≡ same_list (fifo raw.now len) target.now }
-{
-    lists::equal(stack::fifo(raw, len), target)
-}
+    /// The value of a filled slot, by the slot's number.
+    fn slot(&self, id: u32) -> Option<u32>
+        ensures { result ≡ slot_at self.now.first id (slots_now self.now) }
+    {
+        let place = id.checked_sub(self.first)?;
+        self.slots().get(place as usize).copied()
+    }
 
-// Record after record, to the first fault; at the end 41 unless the stack is the target.
-fn replay(
-    raw: &mut [u32; 1024],
-    start: u16,
-    spill: &mut [u32],
-    stored: usize,
-    limits: Limits,
-    target: &[u32],
-    ops: &[u32],
-) -> Verdict
-    requires { (stored ≤ length spill.old) × (limits.first + length spill.old ≤ MAX-WORD) × (length ops.now % record_words ≡ 0) }
-    ensures { seen result spill.new ≡ replay_due (lent_to (fifo raw.old start) spill.old stored limits.first target.now limits.max_swap_depth limits.max_dup_depth ops.now) }
-{
-    let mut len = start;
-    let mut filled = stored;
-    let mut gas: u64 = 0;
-    let mut index: usize = 0;
-    let count = ops.len() / 2;
-    while index < count {
-        let next = read_at(ops, 2 * index);
-        let turn = replay_one(raw, len, spill, filled, limits, next.kind, next.argument);
-        len = turn.len;
-        filled = turn.filled;
-        if turn.code != 0 {
-            return answer(turn.code, index, gas, filled);
+    /// Kind 4: the top moved into the next slot, which `argument` names.
+    #[tactic(auto, unfolding(scope::specs::Stack::pop_on))]
+    fn store(&mut self, argument: u32) -> Result<Op, Fault>
+        ensures { Plays (Op.Store argument) result self.old self.new }
+    {
+        let top = self.stack.pop().ok_or(Fault::NoneLeft)?;
+        if argument as usize != self.first as usize + self.slots().len() {
+            return Err(Fault::OtherSlot);
         }
-        gas = more_gas(gas, turn.gas);
-        index += 1;
+        if self.spill.len() <= self.filled {
+            return Err(Fault::NoSlot);
+        }
+        self.spill[self.filled] = top;
+        self.filled += 1;
+        Ok(Op::Store(argument))
     }
-    if is_target(raw, len, target) {
-        return answer(0, index, gas, filled);
+
+    /// Kind 5: the value of slot `argument` on top.
+    #[tactic(auto, unfolding(scope::specs::Stack::push_on))]
+    fn load(&mut self, argument: u32) -> Result<Op, Fault>
+        ensures { Plays (Op.Load argument) result self.old self.new }
+    {
+        if 1024 <= self.stack.len() {
+            return Err(Fault::TooHigh);
+        }
+        let value = self.slot(argument).ok_or(Fault::NotFilled)?;
+        self.stack.push(value).map_err(|_| Fault::TooHigh)?;
+        Ok(Op::Load(argument))
     }
-    answer(41, index, gas, filled)
+
+    /// One record by its kind: the operation that it is. One at fault leaves the slots as they are.
+    fn turn(&mut self, item: Record) -> Result<Op, Fault>
+        ensures same { SameRun self.old self.new }
+        ensures code { code_of result
+            ≡ fault (job_of self.old) (values_now self.old) (length (slots_now self.old)) (decoded item.kind item.argument) }
+        ensures op { IfOk result (λ op. decoded item.kind item.argument ≡ some op) }
+        ensures stack { IfOk result (λ op.
+            values_now self.new ≡ stack_after self.old.first op (slots_now self.old) (values_now self.old)) }
+        ensures filled { self.new.filled ≡ filled_after result self.old.filled }
+        ensures spill { self.new.spill.now ≡ spill_after result self.old.filled (values_now self.old) self.old.spill.now }
+    {
+        match item.kind {
+            1 => self.swap(item.argument),
+            2 => self.dup(item.argument),
+            3 if item.argument == 0 => self.pop(),
+            4 => self.store(item.argument),
+            5 => self.load(item.argument),
+            _ => Err(Fault::Unknown),
+        }
+    }
+
+    /// Record after record, to the first fault; at the end the stack must be the target.
+    #[tactic(auto, unfolding(scope::specs::Stack::made_from, crate::specs::Promises::replay_due))]
+    fn run(&mut self, start: &[u32], target: &[u32], ops: &[u32]) -> Result<(), Fault>
+        requires start { length start.now ≤ 1024 }
+        requires slots { self.old.filled ≤ length self.old.spill.now }
+        requires fresh { self.old.index ≡ 0 }
+        requires free { self.old.gas ≡ 0 }
+        ensures loans { SameLoans self.old self.new }
+        ensures due { seen_now result self.new ≡ replay_due (lent_now self.old start.now target.now ops.now) }
+    {
+        if ops.len() % 2 != 0 {
+            return Err(Fault::Odd);
+        }
+        self.stack.lay(start)?;
+        for item in Reader::new(ops) {
+            let op = self.turn(item)?;
+            self.gas = more_gas(self.gas, op);
+            self.index += 1;
+        }
+        if !lists::equal(self.stack.fifo(), target) {
+            return Err(Fault::Unlike);
+        }
+        Ok(())
+    }
 }
 
-// The checker. Codes 1 to 5 with all else 0, then 30, then record by record.
+/// The checker: the first fault of a job and of a list of operation words for it. A job that is refused has a verdict with all else 0; the
+/// slots are left as the replay filled them.
 pub fn check(
     start: &[u32],
     spill: &mut [u32],
     filled: usize,
     first: u32,
     target: &[u32],
-    max_swap_depth: u8,
-    max_dup_depth: u8,
+    config: ScheduleConfig,
     ops: &[u32],
 ) -> Verdict
-    ensures { seen result spill.new ≡ check_due (lent_to start.now spill.old filled first target.now max_swap_depth max_dup_depth ops.now) }
+    ensures { seen result spill.new
+        ≡ check_due (lent_to start.now spill.old filled first target.now config.max_swap_depth config.max_dup_depth ops.now) }
 {
-    let code = job_code(
-        max_swap_depth,
-        start.len(),
-        target.len(),
+    let mut stack = EvmStack::new();
+    let mut replay = Replay {
+        stack: &mut stack,
+        spill,
+        first,
         filled,
-        spill.len(),
-        first,
-    );
-    if code != 0 {
-        return answer(code, 0, 0, 0);
-    }
-    if ops.len() % 2 != 0 {
-        return answer(30, 0, 0, filled);
-    }
-    let made = EvmStack::from_fifo(start);
-    let mut laid = made.stack;
-    let len = laid.stack_len;
-    let limits = Limits {
-        max_swap_depth,
-        max_dup_depth,
-        first,
+        config,
+        index: 0,
+        gas: 0,
     };
-    replay(&mut laid.stack_raw, len, spill, filled, limits, target, ops)
+    if let Err(refusal) = replay.check_job(start.len(), target.len()) {
+        return Verdict {
+            outcome: Err(refusal.into()),
+            index: 0,
+            gas: 0,
+            filled: 0,
+        };
+    }
+    let outcome = replay.run(start, target, ops);
+    Verdict {
+        outcome,
+        index: replay.index,
+        gas: replay.gas,
+        filled: replay.filled,
+    }
 }

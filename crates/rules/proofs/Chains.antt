@@ -1,94 +1,74 @@
--- The order of the rules: each return of a chain, from the choices before it that passed.
-use Prim.Native.Nat.{ℕ, ◌<◌}
-use native.Mathlib.Omega.{arith}
-use mathlib.Core.Path.{◌≡◌}
-use mathlib.Core.Bool.{Bool, true, false}
-use mathlib.Core.List.{List}
-use lib.ListN.{length}
-use Rattle.scope.specs.Rules.{rule_a, rule_b, rule_c, rule_d, rule_e, rule_f, rule_x, rule_u, rule_v, rule_w, shrink_plan, grow_plan}
+-- The order of the rules: each return of a chain, from the rules before it that do not apply.
+use Rattle.std.proofs.Common.{ℕ, ◌≡◌, List, Option, None as none, Some as some, Ok}
+use Rattle.scope.specs.Rules.{rule_a, rule_b, rule_c, rule_d, rule_e, rule_f, rule_x, shrink_plan, grow_plan}
 use Rattle.rules.specs.declared.Choice.{Choice}
 use Rattle.rules.specs.declared.Choice.TheVariants.{Store}
-use Rattle.rules.specs.Promises.{Chosen, applies, ◌then◌, from_c, from_e, from_x, settling, getting, pushing}
-use Rattle.rules.proofs.Stages.{here, next, raise, lower}
+use Rattle.rules.specs.Promises.{Chosen, Answer, ◌then◌, settling, settled, pushing}
+use Rattle.rules.proofs.Stages.{some-here, some-next, raise}
 use Rattle.rules.proofs.Popping.{f-store}
-use Rattle.rules.proofs.Fetching.{grow-some}
+use Rattle.rules.proofs.Fetching.{as-grown}
 
--- ---- (e), (f)
+-- ---- shrink
 
-module _ (C T : List ℕ) (c : ℕ) (e : Choice) (y : Bool) (re : (L : List ℕ) (S D : ℕ) → Chosen 1 C T L c S D rule_e e) (ee : y ≡ applies e) where
-  pub duplicate-e : y ≡ true → (L : List ℕ) (S D : ℕ) → Chosen 1 C T L c S D from_e e
-  duplicate-e h L S D = here rule_f y (re L S D) ee h
+module _ (C T : List ℕ) (c S : ℕ) (a : Option Choice) (ra : (L : List ℕ) (S D : ℕ) → Chosen 1 C T L c S D rule_a (Ok a)) where
+  pub shrink-a : (x : Choice) → a ≡ some x → (L : List ℕ) (D : ℕ) → Chosen 1 C T L c S D shrink_plan (Ok (some x))
+  unfolding shrink_plan
+  shrink-a x e L D = some-here (rule_b then rule_c then rule_d then rule_e then rule_f) x (ra L S D) e
 
-  pub duplicate-f : y ≡ false → (L : List ℕ) (S D : ℕ) → Chosen 1 C T L c S D from_e Store
-  duplicate-f h L S D = next y (re L S D) ee h (f-store C T L c S D)
-
--- ---- (c), (d), and the rest
-
-module _ (C T : List ℕ) (c S : ℕ) where
-  module _ (x : Choice) (y : Bool) (rx : (L : List ℕ) (S D : ℕ) → Chosen 1 C T L c S D rule_c x) (ex : y ≡ applies x) where
-    pub extra-c : y ≡ true → (L : List ℕ) (D : ℕ) → Chosen 1 C T L c S D from_c x
-    extra-c h L D = here (rule_d then from_e) y (rx L S D) ex h
-
-    module _ (d : Choice) (z : Bool) (no : y ≡ false) (rd : (L : List ℕ) (D : ℕ) → Chosen 0 C T L c S D rule_d d) (ed : z ≡ applies d) where
-      pub extra-d : z ≡ true → (L : List ℕ) (D : ℕ) → Chosen 1 C T L c S D from_c d
-      extra-d h L D = next y (rx L S D) ex no (here from_e z (raise (rd L D)) ed h)
-
-      pub extra-rest : (r : Choice) → z ≡ false → ((L : List ℕ) (S D : ℕ) → Chosen 1 C T L c S D from_e r) → (L : List ℕ) (D : ℕ) → Chosen 1 C T L c S D from_c r
-      extra-rest r h rest L D = next y (rx L S D) ex no (next z (raise (rd L D)) ed h (rest L S D))
-
--- ---- (a), (b), and the rest of shrink or of grow
-
-module _ (C T : List ℕ) (c S : ℕ) where
-  module _ (a : Choice) (y : Bool) (ra : (L : List ℕ) (S D : ℕ) → Chosen 1 C T L c S D rule_a a) (ea : y ≡ applies a) where
-    pub shrink-a : y ≡ true → (L : List ℕ) (D : ℕ) → Chosen 1 C T L c S D shrink_plan a
+  module _ (na : a ≡ none) (b : Option Choice) (rb : (L : List ℕ) (D : ℕ) → Chosen 0 C T L c S D rule_b (Ok b)) where
+    pub shrink-b : (x : Choice) → b ≡ some x → (L : List ℕ) (D : ℕ) → Chosen 1 C T L c S D shrink_plan (Ok (some x))
     unfolding shrink_plan
-    shrink-a h L D = here (rule_b then from_c) y (ra L S D) ea h
+    shrink-b x e L D = some-next (ra L S D) na (some-here (rule_c then rule_d then rule_e then rule_f) x (raise (rb L D)) e)
 
-    pub settle-a : y ≡ true → (L : List ℕ) (D : ℕ) → Chosen 1 C T L c S D settling a
-    settle-a h L D = here (rule_b then from_x) y (ra L S D) ea h
-
-    module _ (b : Choice) (z : Bool) (no : y ≡ false) (rb : (L : List ℕ) (D : ℕ) → Chosen 0 C T L c S D rule_b b) (eb : z ≡ applies b) where
-      pub shrink-b : z ≡ true → (L : List ℕ) (D : ℕ) → Chosen 1 C T L c S D shrink_plan b
+    module _ (nb : b ≡ none) (k : Option Choice) (rk : (L : List ℕ) (S D : ℕ) → Chosen 1 C T L c S D rule_c (Ok k)) where
+      pub shrink-c : (x : Choice) → k ≡ some x → (L : List ℕ) (D : ℕ) → Chosen 1 C T L c S D shrink_plan (Ok (some x))
       unfolding shrink_plan
-      shrink-b h L D = next y (ra L S D) ea no (here from_c z (raise (rb L D)) eb h)
+      shrink-c x e L D =
+          some-next (ra L S D) na (some-next (raise (rb L D)) nb (some-here (rule_d then rule_e then rule_f) x (rk L S D) e))
 
-      pub settle-b : z ≡ true → (L : List ℕ) (D : ℕ) → Chosen 1 C T L c S D settling b
-      settle-b h L D = next y (ra L S D) ea no (here from_x z (raise (rb L D)) eb h)
+      module _ (nk : k ≡ none) (d : Option Choice) (rd : (L : List ℕ) (D : ℕ) → Chosen 0 C T L c S D rule_d (Ok d)) where
+        pub shrink-d : (x : Choice) → d ≡ some x → (L : List ℕ) (D : ℕ) → Chosen 1 C T L c S D shrink_plan (Ok (some x))
+        unfolding shrink_plan
+        shrink-d x e L D =
+            some-next (ra L S D) na (some-next (raise (rb L D)) nb (some-next (rk L S D) nk
+            (some-here (rule_e then rule_f) x (raise (rd L D)) e)))
 
-      pub shrink-rest : (r : Choice) → z ≡ false → ((L : List ℕ) (D : ℕ) → Chosen 1 C T L c S D from_c r) → (L : List ℕ) (D : ℕ) → Chosen 1 C T L c S D shrink_plan r
-      unfolding shrink_plan
-      shrink-rest r h rest L D = next y (ra L S D) ea no (next z (raise (rb L D)) eb h (rest L D))
+        module _ (nd : d ≡ none) (m : Option Choice) (rm : (L : List ℕ) (S D : ℕ) → Chosen 1 C T L c S D rule_e (Ok m)) where
+          pub shrink-e : (x : Choice) → m ≡ some x → (L : List ℕ) (D : ℕ) → Chosen 1 C T L c S D shrink_plan (Ok (some x))
+          unfolding shrink_plan
+          shrink-e x e L D =
+              some-next (ra L S D) na (some-next (raise (rb L D)) nb (some-next (rk L S D) nk
+              (some-next (raise (rd L D)) nd (some-here rule_f x (rm L S D) e))))
 
-      pub settle-rest : (r : Choice) → z ≡ false → ((L : List ℕ) (D : ℕ) → Chosen 1 C T L c S D from_x r) → (L : List ℕ) (D : ℕ) → Chosen 1 C T L c S D settling r
-      settle-rest r h rest L D = next y (ra L S D) ea no (next z (raise (rb L D)) eb h (rest L D))
+          pub shrink-f : m ≡ none → (L : List ℕ) (D : ℕ) → Chosen 1 C T L c S D shrink_plan (Ok (some Store))
+          unfolding shrink_plan
+          shrink-f e L D =
+              some-next (ra L S D) na (some-next (raise (rb L D)) nb (some-next (rk L S D) nk
+              (some-next (raise (rd L D)) nd (some-next (rm L S D) e (f-store C T L c S D)))))
 
--- ---- (x), (c)
+-- ---- grow, with the values that are there
 
-module _ (C T : List ℕ) (c S : ℕ) (x : Choice) (y : Bool) (rx : (L : List ℕ) (D : ℕ) → Chosen 0 C T L c S D rule_x x) (ex : y ≡ applies x) where
-  pub exchange-x : y ≡ true → (L : List ℕ) (D : ℕ) → Chosen 1 C T L c S D from_x x
-  exchange-x h L D = here rule_c y (raise (rx L D)) ex h
+module _ (C T L : List ℕ) (c S D : ℕ) (a : Option Choice) (ra : (L : List ℕ) (S D : ℕ) → Chosen 1 C T L c S D rule_a (Ok a)) where
+  pub settle-a : (x : Choice) → a ≡ some x → Chosen 1 C T L c S D settling (Ok (some x))
+  settle-a x e = some-here (rule_b then rule_x then rule_c) x (ra L S D) e
 
-  pub exchange-c : (r : Choice) → y ≡ false → ((L : List ℕ) (S D : ℕ) → Chosen 1 C T L c S D rule_c r) → (L : List ℕ) (D : ℕ) → Chosen 1 C T L c S D from_x r
-  exchange-c r h rc L D = next y (raise (rx L D)) ex h (rc L S D)
+  module _ (na : a ≡ none) (b : Option Choice) (rb : (L : List ℕ) (D : ℕ) → Chosen 0 C T L c S D rule_b (Ok b)) where
+    pub settle-b : (x : Choice) → b ≡ some x → Chosen 1 C T L c S D settling (Ok (some x))
+    settle-b x e = some-next (ra L S D) na (some-here (rule_x then rule_c) x (raise (rb L D)) e)
 
--- ---- (u), (v), (w)
+    module _ (nb : b ≡ none) (k : Option Choice) (rk : Chosen 0 C T L c S D rule_x (Ok k)) where
+      pub settle-x : (x : Choice) → k ≡ some x → Chosen 1 C T L c S D settling (Ok (some x))
+      settle-x x e = some-next (ra L S D) na (some-next (raise (rb L D)) nb (some-here rule_c x (raise rk) e))
 
-module _ (C T L : List ℕ) (c S D : ℕ) where
-  module _ (u : Choice) (y : Bool) (ru : (c D : ℕ) → Chosen 0 C T L c S D rule_u u) (eu : y ≡ applies u) where
-    pub get-u : y ≡ true → Chosen 0 C T L c S D getting u
-    get-u h = here (rule_v then rule_w) y (ru c D) eu h
+      pub settle-c : (r : Option Choice) → k ≡ none → ((L : List ℕ) (S D : ℕ) → Chosen 1 C T L c S D rule_c (Ok r))
+          → Chosen 1 C T L c S D settling (Ok r)
+      settle-c r e rc = some-next (ra L S D) na (some-next (raise (rb L D)) nb (some-next (raise rk) e (rc L S D)))
 
-    module _ (v : Choice) (z : Bool) (no : y ≡ false) (rv : (L : List ℕ) (c S : ℕ) → Chosen 0 C T L c S D rule_v v) (ev : z ≡ applies v) where
-      pub get-v : z ≡ true → Chosen 0 C T L c S D getting v
-      get-v h = next y (ru c D) eu no (here rule_w z (rv L c S) ev h)
+-- ---- grow: what is there, then a push or a store
 
-      pub get-w : (r : Choice) → z ≡ false → ((S : ℕ) → Chosen 0 C T L c S D rule_w r) → Chosen 0 C T L c S D getting r
-      get-w r h w = next y (ru c D) eu no (next z (rv L c S) ev h (w S))
+module _ (C T L : List ℕ) (c S D : ℕ) (s : Option Choice) (rs : Chosen 0 C T L c S D settled (Ok s)) where
+  pub grow-settled : (x : Choice) → s ≡ some x → Chosen 0 C T L c S D grow_plan (Ok (some x))
+  grow-settled x e = as-grown C T L c S D (Ok (some x)) (some-here pushing x rs e)
 
-  -- ---- grow: what is there, then a push or a store
-  module _ (s : Choice) (y : Bool) (some : c < length C) (rs : (L : List ℕ) (D : ℕ) → Chosen 1 C T L c S D settling s) (es : y ≡ applies s) where
-    pub grow-settled : y ≡ true → Chosen 0 C T L c S D grow_plan s
-    grow-settled h = grow-some C T L c S D s some (here pushing y (lower (omega arith) (rs L D)) es h)
-
-    pub grow-pushed : (r : Choice) → y ≡ false → Chosen 0 C T L c S D pushing r → Chosen 0 C T L c S D grow_plan r
-    grow-pushed r h x = grow-some C T L c S D r some (next y (lower (omega arith) (rs L D)) es h x)
+  pub grow-pushed : (r : Answer) → s ≡ none → Chosen 0 C T L c S D pushing r → Chosen 0 C T L c S D grow_plan r
+  grow-pushed r e z = as-grown C T L c S D r (some-next rs e z)

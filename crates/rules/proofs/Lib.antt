@@ -1,6 +1,6 @@
 pub mod Stages
 pub mod Popping
 pub mod Swapping
-pub mod Completed
 pub mod Fetching
+pub mod Completed
 pub mod Chains

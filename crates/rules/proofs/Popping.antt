@@ -1,46 +1,47 @@
 -- (a), (c), (e): the test decides whether the top is popped. (f): what is left is the store.
-use Prim.Native.Nat.{ℕ}
-use native.Mathlib.Omega.{arith}
-use mathlib.Core.Path.{◌≡◌, refl}
-use mathlib.Core.Bool.{Bool, true, false, not, ◌||◌}
-use mathlib.Core.List.{List}
-use lib.ListN.{length, get_or}
+use Rattle.std.proofs.Common.{ℕ, ◌≤◌, ◌≡◌, Bool, true, false, List, length, get_or, Option, Ok, Some as some, refl, arith}
+use mathlib.Core.Bool.{not, ◌||◌}
 use lib.Dec.{eqb, leb}
+use Rattle.std.specs.Bool.{then_some}
 use Rattle.scope.specs.Words.{◌∈◌, count, ◌from◌}
-use Rattle.scope.specs.Rules.{extra, rule_a, rule_c, rule_e, rule_f, store}
-use Rattle.rules.specs.declared.Choice.TheVariants.{Pass, Pop, Store}
-use Rattle.rules.specs.Promises.{Chosen}
+use Rattle.scope.specs.Rules.{Job, State, pop_if, extra, rule_a, rule_c, rule_e, rule_f, store}
+use Rattle.rules.specs.declared.Choice.{Choice}
+use Rattle.rules.specs.declared.Choice.TheVariants.{Pop, Store}
+use Rattle.rules.specs.Promises.{Chosen, Fits, planned, job, state}
 
-module _ (C T : List ℕ) (c v : ℕ) (b : Bool) (top : v ≡ get_or C 0 0) where
-  module _ (e : b ≡ (eqb c (length T) || not (v ∈ (T from c)))) where
-    pub a-pop : b ≡ true → (L : List ℕ) (S D : ℕ) → Chosen 1 C T L c S D rule_a Pop
-    unfolding rule_a
-    a-pop h L S D = record { is = λ first slots room os. rw (← top, ← e, h); fit = λ n. n }
+popped : (b : Bool) (first m : ℕ) (j : Job) (s : State) → planned first m (Ok (then_some b Pop)) ≡ pop_if j s b
+popped true first m j s = refl
+popped false first m j s = refl
 
-    pub a-pass : b ≡ false → (L : List ℕ) (S D : ℕ) → Chosen 1 C T L c S D rule_a Pass
-    unfolding rule_a
-    a-pass h L S D = record { is = λ first slots room os. rw (← top, ← e, h); fit = λ n. omega arith }
+fits : (b : Bool) (n m : ℕ) → 1 ≤ n → Fits n m (Ok (then_some b Pop))
+fits true n m h = h
+fits false n m h = omega arith
 
-  module _ (e : b ≡ extra C T c v) where
-    pub c-pop : b ≡ true → (L : List ℕ) (S D : ℕ) → Chosen 1 C T L c S D rule_c Pop
-    unfolding rule_c
-    c-pop h L S D = record { is = λ first slots room os. rw (← top, ← e, h); fit = λ n. n }
+module _ (C T : List ℕ) (c v : ℕ) (b : Bool) (r : Option Choice) (top : v ≡ get_or C 0 0) (is : r ≡ then_some b Pop) where
+  pub a-pop : b ≡ (eqb c (length T) || not (v ∈ (T from c))) → (L : List ℕ) (S D : ℕ) → Chosen 1 C T L c S D rule_a (Ok r)
+  unfolding rule_a
+  a-pop e L S D =
+      record {
+        is = λ first slots room os. rw (is, ← top, ← e) (popped b first (length L) (job S D T first slots room) (state C c L os));
+        fit = λ n. rw is (fits b (length C) (length L) n);
+      }
 
-    pub c-pass : b ≡ false → (L : List ℕ) (S D : ℕ) → Chosen 1 C T L c S D rule_c Pass
-    unfolding rule_c
-    c-pass h L S D = record { is = λ first slots room os. rw (← top, ← e, h); fit = λ n. omega arith }
+  pub c-pop : b ≡ extra C T c v → (L : List ℕ) (S D : ℕ) → Chosen 1 C T L c S D rule_c (Ok r)
+  unfolding rule_c
+  c-pop e L S D =
+      record {
+        is = λ first slots room os. rw (is, ← top, ← e) (popped b first (length L) (job S D T first slots room) (state C c L os));
+        fit = λ n. rw is (fits b (length C) (length L) n);
+      }
 
-  module _ (e : b ≡ leb 2 (count v (C from c))) where
-    pub e-pop : b ≡ true → (L : List ℕ) (S D : ℕ) → Chosen 1 C T L c S D rule_e Pop
-    unfolding rule_e
-    e-pop h L S D = record { is = λ first slots room os. rw (← top, ← e, h); fit = λ n. n }
+  pub e-pop : b ≡ leb 2 (count v (C from c)) → (L : List ℕ) (S D : ℕ) → Chosen 1 C T L c S D rule_e (Ok r)
+  unfolding rule_e
+  e-pop e L S D =
+      record {
+        is = λ first slots room os. rw (is, ← top, ← e) (popped b first (length L) (job S D T first slots room) (state C c L os));
+        fit = λ n. rw is (fits b (length C) (length L) n);
+      }
 
-    pub e-pass : b ≡ false → (L : List ℕ) (S D : ℕ) → Chosen 1 C T L c S D rule_e Pass
-    unfolding rule_e
-    e-pass h L S D = record { is = λ first slots room os. rw (← top, ← e, h); fit = λ n. omega arith }
-
-pub ruleset popping = (a-pop, a-pass, c-pop, c-pass, e-pop, e-pass)
-
-pub f-store : (C T L : List ℕ) (c S D : ℕ) → Chosen 1 C T L c S D rule_f Store
+pub f-store : (C T L : List ℕ) (c S D : ℕ) → Chosen 1 C T L c S D rule_f (Ok (some Store))
 unfolding rule_f store
 f-store C T L c S D = record { is = λ first slots room os. refl; fit = λ n. n }

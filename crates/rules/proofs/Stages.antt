@@ -1,67 +1,54 @@
 -- How a choice's promise goes through a chain of rules.
-use Prim.Native.Nat.{ℕ, ◌≤◌}
-use native.Mathlib.Omega.{arith}
-use mathlib.Core.Path.{◌≡◌, refl, sym, ap, ◌∙◌}
-use mathlib.Core.Bool.{Bool, true, false, true≢false, false≢true}
-use mathlib.Core.List.{List}
-use lib.ListN.{length}
-use Rattle.scope.specs.Rules.{Job, State, Plan, pass, ◌▹◌}
+use Rattle.std.proofs.Common.{ℕ, ◌≡◌, List, length, Option, None as none, Some as some, Ok, refl, sym, ap, subst, ◌∙◌, arith}
+use Rattle.scope.specs.Rules.{Job, State, Plan, ◌▹◌}
 use Rattle.rules.specs.declared.Choice.{Choice}
-use Rattle.rules.specs.declared.Choice.TheVariants.{Pass, Pop, Swap, SwapPop, Swaps, Store, Load, Dup, Refuse}
-use Rattle.rules.specs.Promises.{Chosen, plan_of, applies, job, state, ◌then◌}
+use Rattle.rules.specs.declared.Choice.TheVariants.{Pop, Swap, SwapPop, Swaps, Store, Load, Dup}
+use Rattle.rules.specs.Promises.{Chosen, Answer, plan_of, job, state, ◌then◌}
 
--- ---- which choices apply
-
-module _ (first m : ℕ) where
-  applied : (a : Choice) (q : Plan) → applies a ≡ true → (plan_of first m a ▹ q) ≡ plan_of first m a
-  applied Pass q e = absurd (false≢true e)
-  applied Pop q e = refl
-  applied (Swap d) q e = refl
-  applied (SwapPop d) q e = refl
-  applied (Swaps k p) q e = refl
-  applied Store q e = refl
-  applied (Load i) q e = refl
-  applied (Dup d) q e = refl
-  applied (Refuse r) q e = refl
-
-  passed : (a : Choice) → applies a ≡ false → plan_of first m a ≡ pass
-  passed Pass e = refl
-  passed Pop e = absurd (true≢false e)
-  passed (Swap d) e = absurd (true≢false e)
-  passed (SwapPop d) e = absurd (true≢false e)
-  passed (Swaps k p) e = absurd (true≢false e)
-  passed Store e = absurd (true≢false e)
-  passed (Load i) e = absurd (true≢false e)
-  passed (Dup d) e = absurd (true≢false e)
-  passed (Refuse r) e = absurd (true≢false e)
+-- what a choice writes, a later rule does not change
+applied : (first m : ℕ) (x : Choice) (q : Plan) → (plan_of first m x ▹ q) ≡ plan_of first m x
+applied first m Pop q = refl
+applied first m (Swap d) q = refl
+applied first m (SwapPop d) q = refl
+applied first m (Swaps k p) q = refl
+applied first m Store q = refl
+applied first m (Load i) q = refl
+applied first m (Dup d) q = refl
 
 -- ---- a chain: the first rule applies, or it passes and the rest of the chain decides
 
 module _ {h : ℕ} {C T L : List ℕ} {c S D : ℕ} where
-  pub here : {p : Job → State → Plan} {a : Choice} (q : Job → State → Plan) (b : Bool)
-      → Chosen h C T L c S D p a → b ≡ applies a → b ≡ true → Chosen h C T L c S D (p then q) a
-  here {p} {a} q b x e y =
+  here : {p : Job → State → Plan} (q : Job → State → Plan) {a : Answer} (x : Choice)
+      → Chosen h C T L c S D p a → a ≡ Ok (some x) → Chosen h C T L c S D (p then q) (Ok (some x))
+  here {p} q {a} x is e =
+      let y : Chosen h C T L c S D p (Ok (some x)) = subst (λ r. Chosen h C T L c S D p r) e is in
       record {
         is = λ first slots room os.
-            sym (applied first (length L) a (q (job S D T first slots room) (state C c L os)) (sym e ∙ y))
-            ∙ ap (λ (w : Plan). w ▹ q (job S D T first slots room) (state C c L os)) (x.is first slots room os);
-        fit = x.fit;
+            sym (applied first (length L) x (q (job S D T first slots room) (state C c L os)))
+            ∙ ap (λ (w : Plan). w ▹ q (job S D T first slots room) (state C c L os)) (y.is first slots room os);
+        fit = y.fit;
       }
 
-  pub next : {p q : Job → State → Plan} {a r : Choice} (b : Bool)
-      → Chosen h C T L c S D p a → b ≡ applies a → b ≡ false → Chosen h C T L c S D q r → Chosen h C T L c S D (p then q) r
-  next {p} {q} {a} {r} b x e y z =
+  next : {p q : Job → State → Plan} {a r : Answer}
+      → Chosen h C T L c S D p a → a ≡ Ok none → Chosen h C T L c S D q r → Chosen h C T L c S D (p then q) r
+  next {p} {q} {a} {r} is e z =
+      let y : Chosen h C T L c S D p (Ok none) = subst (λ r. Chosen h C T L c S D p r) e is in
       record {
         is = λ first slots room os.
             z.is first slots room os
-            ∙ ap (λ (w : Plan). w ▹ q (job S D T first slots room) (state C c L os))
-            (sym (passed first (length L) a (sym e ∙ y)) ∙ x.is first slots room os);
+            ∙ ap (λ (w : Plan). w ▹ q (job S D T first slots room) (state C c L os)) (y.is first slots room os);
         fit = z.fit;
       }
 
-  -- a choice that can be performed at any height can at least at h; and the other way where the stack has them
-  pub raise : {p : Job → State → Plan} {a : Choice} → Chosen 0 C T L c S D p a → Chosen h C T L c S D p a
-  raise x = record { is = x.is; fit = λ _. x.fit (omega arith) }
+  -- the same of a rule that never refuses
+  pub some-here : {p : Job → State → Plan} (q : Job → State → Plan) {a : Option Choice} (x : Choice)
+      → Chosen h C T L c S D p (Ok a) → a ≡ some x → Chosen h C T L c S D (p then q) (Ok (some x))
+  some-here q x is e = here q x is (ap (λ (o : Option Choice). Ok o) e)
 
-  pub lower : {p : Job → State → Plan} {a : Choice} → h ≤ length C → Chosen h C T L c S D p a → Chosen 0 C T L c S D p a
-  lower l x = record { is = x.is; fit = λ _. x.fit l }
+  pub some-next : {p q : Job → State → Plan} {a : Option Choice} {r : Answer}
+      → Chosen h C T L c S D p (Ok a) → a ≡ none → Chosen h C T L c S D q r → Chosen h C T L c S D (p then q) r
+  some-next is e z = next is (ap (λ (o : Option Choice). Ok o) e) z
+
+  -- a choice that can be performed at any height can at least at h
+  pub raise : {p : Job → State → Plan} {a : Answer} → Chosen 0 C T L c S D p a → Chosen h C T L c S D p a
+  raise x = record { is = x.is; fit = λ _. x.fit (omega arith) }

@@ -1,196 +1,137 @@
 // Grow: (x), (u), (v), (w), and the order in which a tick of grow tries the rules.
-ghost use Rattle.std.specs.Prelude.{List, ℕ};
+ghost use Rattle.std.specs.Prelude.{List, ℕ, Ok};
 ghost use Rattle.scope.specs.Rules as R;
 ghost use Rattle.rules.specs.Promises as K;
 
 use super::shrink::{pop_extra, pop_unneeded, swap_to_correct_position};
-use super::{Choice, applies, depth, within};
+use super::{Choice, depth, within};
 use indices::{FromBottom, FromTop};
-use questions::grow::{copy_for, is_unavailable, out_of_reach, source_for};
-use questions::push::can_push;
-use questions::{Answer, floor};
-use scope::Found;
+use questions::View;
+use scope::Refusal;
 
-// (x) Brings the lowest position that can be set right its value, by two swaps through the top.
-fn exchange_via_top<'a>(current: &'a [u32], target: &'a [u32], complete: usize, swaps: u8) -> Choice
-    ensures { (L : List ℕ) (D : ℕ) → K.Chosen 0 current.now target.now L complete swaps D R.rule_x result }
+/// (x) Brings the lowest position that can be set right its value, by two swaps through the top.
+fn exchange_via_top(view: &View) -> Option<Choice>
+    ensures { K.Picked 0 view.now R.rule_x (Ok result) }
 {
-    let e = lists::least(current.len(), target.len());
-    let start = floor(current.len(), complete, swaps);
-    let mut p = start.0;
-    while p < e {
-        let src = source_for(current, target, start, FromBottom(p));
-        if let Found::At(q) = src {
-            let down = depth(FromBottom(q), current.len(), swaps);
-            let back = depth(FromBottom(p), current.len(), swaps);
-            return Choice::Swaps(down, back);
+    let start = view.floor();
+    for p in start.0..view.end() {
+        if let Some(q) = view.source_for(start, FromBottom(p)) {
+            let down = depth(view, FromBottom(q));
+            let back = depth(view, FromBottom(p));
+            return Some(Choice::Swaps(down, back));
         }
-        p += 1;
     }
-    Choice::Pass
+    None
 }
 
-// Loads a value from the latest slot that has it; 6 where no slot has.
-fn unspill(spilled: &[u32], value: u32) -> Choice
-    ensures { (C T : List ℕ) (c S D : ℕ) → K.Chosen 0 C T spilled.now c S D (K.loading value) result }
+/// Loads a value from the latest slot that has it; `Err(Missing)` where no slot has.
+fn unspill(view: &View, value: u32) -> Result<Choice, Refusal>
+    ensures { (C T : List ℕ) (c S D : ℕ) → K.Chosen 0 C T view.now.spilled.now c S D (K.loading value) (K.always result) }
 {
-    let slot = lists::find_last(spilled, value);
-    if let Found::At(i) = slot {
-        return Choice::Load(i);
-    }
-    Choice::Refuse(6)
+    let slot = lists::find_last(view.spilled, value).ok_or(Refusal::Missing)?;
+    Ok(Choice::Load(slot))
 }
 
-// (u) Loads the value for the deepest position that a swap still reaches after one push, where it is wrong and not within reach.
-fn unspill_unavailable_horizon<'a>(
-    current: &'a [u32],
-    target: &'a [u32],
-    spilled: &'a [u32],
-    swaps: u8,
-) -> Choice
-    ensures { (c D : ℕ) → K.Chosen 0 current.now target.now spilled.now c swaps D R.rule_u result }
+/// (u) Loads the value for the deepest position that a swap still reaches after one push, where it is wrong and not within reach.
+/// `Err(Inside)` where one of the stacks has no such position, `Err(Missing)` where no slot has the value.
+fn unspill_unavailable_horizon(view: &View) -> Result<Option<Choice>, Refusal>
+    ensures { K.Picked 0 view.now R.rule_u result }
 {
-    let limit = swaps as usize;
-    if current.len() < limit {
-        return Choice::Pass;
+    let limit = usize::from(view.config.max_swap_depth);
+    if view.current.len() < limit {
+        return Ok(None);
     }
-    let k = current.len() - limit;
-    if lists::least(current.len(), target.len()) <= k {
-        return Choice::Refuse(12);
+    let horizon = FromBottom(view.current.len() - limit);
+    if view.end() <= horizon.0 {
+        return Err(Refusal::Inside);
     }
-    let horizon = FromBottom(k);
-    if is_unavailable(current, target, limit, horizon) {
-        return unspill(spilled, indices::at(target, horizon));
+    if !view.is_unavailable(limit, horizon) {
+        return Ok(None);
     }
-    Choice::Pass
+    let choice = unspill(view, indices::at(view.target, horizon))?;
+    Ok(Some(choice))
 }
 
-// (v) Copies the lowest value within a dup's reach that needs another copy, from its smallest depth.
-fn dup_needed<'a>(current: &'a [u32], target: &'a [u32], dups: u8) -> Choice
-    ensures { (L : List ℕ) (c S : ℕ) → K.Chosen 0 current.now target.now L c S dups R.rule_v result }
+/// (v) Copies the lowest value within a dup's reach that needs another copy, from its smallest depth.
+fn dup_needed(view: &View) -> Option<Choice>
+    ensures { K.Picked 0 view.now R.rule_v (Ok result) }
 {
-    if current.len() == 0 {
-        return Choice::Pass;
+    if view.current.is_empty() {
+        return None;
     }
-    let reach = lists::least(dups as usize, current.len() - 1);
-    let start = FromTop(reach).to_position(current.len());
-    let e = lists::least(current.len(), target.len());
-    let mut p = start.0;
-    while p < e {
-        let copy = copy_for(current, target, start, FromBottom(p));
-        if let Found::At(d) = copy {
-            return Choice::Dup(within(FromTop(d), dups));
+    let limit = view.config.max_dup_depth;
+    let reach = usize::from(limit).min(view.current.len() - 1);
+    let start = FromTop(reach).to_position(view.current.len());
+    for p in start.0..view.end() {
+        if let Some(d) = view.copy_for(start, FromBottom(p)) {
+            return Some(Choice::Dup(within(FromTop(d), limit)));
         }
-        p += 1;
     }
-    Choice::Pass
+    None
 }
 
-// (w) Loads the lowest value from the completed positions up that no dup reaches; 8 where there is none.
-fn unspill_needed<'a>(
-    current: &'a [u32],
-    target: &'a [u32],
-    spilled: &'a [u32],
-    complete: usize,
-    dups: u8,
-) -> Choice
-    ensures { (S : ℕ) → K.Chosen 0 current.now target.now spilled.now complete S dups R.rule_w result }
+/// (w) Loads the lowest value from the completed positions up that no dup reaches. `Err(Stuck)` where there is none,
+/// `Err(Missing)` where no slot has the value.
+fn unspill_needed(view: &View) -> Result<Choice, Refusal>
+    ensures { K.Picked 0 view.now R.rule_w (K.always result) }
 {
-    let reach = lists::least(dups as usize + 1, current.len());
-    let mut p = complete;
-    while p < target.len() {
-        if out_of_reach(current, target, reach, FromBottom(p)) {
-            return unspill(spilled, indices::at(target, FromBottom(p)));
-        }
-        p += 1;
-    }
-    Choice::Refuse(8)
+    let reach = (usize::from(view.config.max_dup_depth) + 1).min(view.current.len());
+    let p = (view.complete..view.target.len())
+        .find(|p| view.out_of_reach(reach, FromBottom(*p)))
+        .ok_or(Refusal::Stuck)?;
+    unspill(view, indices::at(view.target, FromBottom(p)))
 }
 
-// (x), (c).
-fn exchange_or_pop<'a>(current: &'a [u32], target: &'a [u32], complete: usize, swaps: u8) -> Choice
-    ensures { (L : List ℕ) (D : ℕ) → K.Chosen 1 current.now target.now L complete swaps D K.from_x result }
+/// What a tick of grow does with the values that are there: the first of (a), (b), (x), (c) that applies. Nothing where all are completed.
+fn settle(view: &View) -> Option<Choice>
+    ensures { K.Picked 0 view.now K.settled (Ok result) }
 {
-    let x = exchange_via_top(current, target, complete, swaps);
-    if applies(x) {
-        return x;
+    if view.current.len() <= view.complete {
+        return None;
     }
-    pop_extra(current, target, complete)
+    if let Some(choice) = pop_unneeded(view) {
+        return Some(choice);
+    }
+    if let Some(choice) = swap_to_correct_position(view) {
+        return Some(choice);
+    }
+    if let Some(choice) = exchange_via_top(view) {
+        return Some(choice);
+    }
+    pop_extra(view)
 }
 
-// What a tick of grow does with the values that are there: (a), (b), (x), (c).
-fn settle<'a>(current: &'a [u32], target: &'a [u32], complete: usize, swaps: u8) -> Choice
-    ensures { (L : List ℕ) (D : ℕ) → K.Chosen 1 current.now target.now L complete swaps D K.settling result }
+/// Where a push is allowed: (u), (v), (w).
+fn get_needed(view: &View) -> Result<Choice, Refusal>
+    ensures { K.Picked 0 view.now K.getting (K.always result) }
 {
-    let a = pop_unneeded(current, target, complete);
-    if applies(a) {
-        return a;
+    if let Some(choice) = unspill_unavailable_horizon(view)? {
+        return Ok(choice);
     }
-    let b = swap_to_correct_position(current, target, complete, swaps);
-    if applies(b) {
-        return b;
+    if let Some(choice) = dup_needed(view) {
+        return Ok(choice);
     }
-    exchange_or_pop(current, target, complete, swaps)
+    unspill_needed(view)
 }
 
-// Where a push is allowed: (u), (v), (w).
-fn get_needed<'a>(
-    current: &'a [u32],
-    target: &'a [u32],
-    spilled: &'a [u32],
-    complete: usize,
-    swaps: u8,
-    dups: u8,
-) -> Choice
-    ensures { K.Chosen 0 current.now target.now spilled.now complete swaps dups K.getting result }
+/// Where nothing that is there can be used: a push where it is allowed, else a store.
+fn push_or_store(view: &View) -> Result<Choice, Refusal>
+    ensures { K.Picked 0 view.now K.pushing (K.always result) }
 {
-    let u = unspill_unavailable_horizon(current, target, spilled, swaps);
-    if applies(u) {
-        return u;
-    }
-    let v = dup_needed(current, target, dups);
-    if applies(v) {
-        return v;
-    }
-    unspill_needed(current, target, spilled, complete, dups)
-}
-
-// Where nothing that is there can be used: a push where it is allowed, else a store.
-fn push_or_store<'a>(
-    current: &'a [u32],
-    target: &'a [u32],
-    spilled: &'a [u32],
-    complete: usize,
-    swaps: u8,
-    dups: u8,
-) -> Choice
-    ensures { K.Chosen 0 current.now target.now spilled.now complete swaps dups K.pushing result }
-{
-    let answer = can_push(current, target, spilled, swaps);
-    match answer {
-        Answer::Yes => get_needed(current, target, spilled, complete, swaps, dups),
-        Answer::No => Choice::Store,
-        Answer::Outside => Choice::Refuse(12),
+    if view.can_push()? {
+        get_needed(view)
+    } else {
+        Ok(Choice::Store)
     }
 }
 
-// What a tick of grow does.
-pub fn grow_choice<'a>(
-    current: &'a [u32],
-    target: &'a [u32],
-    spilled: &'a [u32],
-    complete: usize,
-    swaps: u8,
-    dups: u8,
-) -> Choice
-    ensures { K.Chosen 0 current.now target.now spilled.now complete swaps dups R.grow_plan result }
+/// What a tick of grow does. `Err(Inside)` where a rule reads outside the stacks, `Err(Missing)` where no slot has the value to load,
+/// `Err(Stuck)` where there is nothing to load.
+pub fn grow_choice(view: &View) -> Result<Choice, Refusal>
+    ensures { K.Picked 0 view.now R.grow_plan (K.always result) }
 {
-    if complete < current.len() {
-        let choice = settle(current, target, complete, swaps);
-        if applies(choice) {
-            return choice;
-        }
-        return push_or_store(current, target, spilled, complete, swaps, dups);
+    if let Some(choice) = settle(view) {
+        return Ok(choice);
     }
-    push_or_store(current, target, spilled, complete, swaps, dups)
+    push_or_store(view)
 }

@@ -1,20 +1,18 @@
-// The step rules (000). They choose and change nothing: a rule answers what it would do, and passes where it does not apply.
-// The current stack and the target are slices, top first; complete is the number of completed positions; swaps and dups are the limits.
+//! The step rules. They choose and change nothing: a rule answers what it would do, or `None` where it does not apply.
 #![tactic(auto)]
 
-ghost use Rattle.std.specs.Prelude.{◌≡◌, ◌-◌, ◌≤◌};
-ghost use Rattle.rules.specs.Promises as K;
+ghost use Rattle.std.specs.Prelude.{◌≡◌, ◌-◌, min, length};
 
 use indices::{FromBottom, FromTop};
+use questions::View;
 
 pub mod counting;
 pub mod grow;
 pub mod shrink;
 
-// What a tick is to do: nothing of this rule, at most two operations, or a refusal. A swap names a depth, a load the index of its slot.
-#[derive(Clone, Copy)]
+/// What a tick is to do: at most two operations. A swap names a depth, a load the index of its slot.
+#[derive(Clone, Copy, Debug, PartialEq, Eq)]
 pub enum Choice {
-    Pass,
     Pop,
     Swap(u8),
     SwapPop(u8),
@@ -22,31 +20,18 @@ pub enum Choice {
     Store,
     Load(usize),
     Dup(u8),
-    Refuse(u32),
 }
 
-// Whether a rule applies, so that no later one is tried.
-pub(crate) fn applies(choice: Choice) -> bool
-    ensures { result ≡ K.applies choice }
-{
-    match choice {
-        Choice::Pass => false,
-        _ => true,
-    }
-}
-
-// A depth that is within a limit.
+/// A depth, or a limit that it passes.
 pub(crate) fn within(d: FromTop, limit: u8) -> u8
-    requires { d.0 ≤ limit }
-    ensures { result ≡ d.0 }
+    ensures { result ≡ min d.0 limit }
 {
-    d.0 as u8
+    d.0.min(usize::from(limit)) as u8
 }
 
-// The depth of a position, where it is within a limit.
-pub(crate) fn depth(p: FromBottom, height: usize, limit: u8) -> u8
-    requires { height - 1 - p.0 ≤ limit }
-    ensures { result ≡ height - 1 - p.0 }
+/// The depth of a position on the current stack, or the swap limit that it passes.
+pub(crate) fn depth(view: &View, p: FromBottom) -> u8
+    ensures { result ≡ min (length view.now.current.now - 1 - p.0) view.now.config.max_swap_depth }
 {
-    within(p.to_depth(height), limit)
+    within(p.to_depth(view.current.len()), view.config.max_swap_depth)
 }

@@ -4,7 +4,7 @@ use Prim.Native.Nat.{ℕ, zero, suc, ◌+◌, ◌-◌, ◌≤◌, min}
 use native.Mathlib.Omega.{arith}
 use mathlib.Core.Path.{◌≡◌, refl}
 use mathlib.Core.Bool.{Bool, true, false, not, ◌&&◌, ◌||◌}
-use mathlib.Core.Option.{Option, none, some}
+use Rattle.std.proofs.Common.{Option, None as none, Some as some}
 use mathlib.Core.List.{List, [], ◌∷◌}
 use lib.ListN.{length, get_or, replicate}
 use lib.Dec.{eqb, leb, ltb}

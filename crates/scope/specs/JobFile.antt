@@ -1,6 +1,6 @@
 -- Document 01, "The driver": a job's bytes, and the lines that answer it.
 use Rattle.std.specs.Prelude.{ℕ, zero, suc, ◌+◌, ◌*◌, ◌/◌, ◌%◌, ◌≤◌, Bool, ◌&&◌, List, [], ◌∷◌, ◌++◌, length, get_or, eqb, leb, if◌then◌else◌}
-use Rattle.std.proofs.Math.Option.{Option, none, some}
+use Rattle.std.specs.Prelude.{Option, None as none, Some as some}
 use Rattle.scope.specs.declared.Op.{Op}
 use Rattle.scope.specs.Codes.{JOB, MAX-WORD}
 use Rattle.scope.specs.Machine.{gas_sum}

@@ -2,33 +2,13 @@
 -- A call looks at the stack's values; a height that is stated too large does not matter to it. After a success the stated height is
 -- the number of values; a refusal gives the stack back as it was.
 use Rattle.std.specs.Prelude.{ℕ, zero, suc, ◌+◌, ◌-◌, ◌/◌, ◌%◌, Bool, true, ◌&&◌, ◌||◌, List, [], ◌∷◌, ◌++◌, length, get_or, set, drop, eqb, leb, ltb, if◌then◌else◌}
-use Rattle.std.proofs.Math.Option.{Option, none, some}
+use Rattle.std.specs.Prelude.{Option, None as none, Some as some}
 use Rattle.scope.specs.declared.Op.{Op}
 use Rattle.scope.specs.declared.Op.TheVariants.{Swap, Dup, Pop, Store, Load}
 use Rattle.scope.specs.declared.StackOps.{StackOps}
 use Rattle.scope.specs.declared.StackOps.TheVariants.{Swap as SwapOp, Dup as DupOp, Pop as PopOp, Exchange as ExchangeOp, Store as StoreOp, Load as LoadOp}
-use Rattle.scope.specs.declared.Word.{Word}
-use Rattle.scope.specs.declared.Word.TheVariants.{Is as WordIs, Nothing as NoWord}
-use Rattle.scope.specs.declared.Depth.{Depth}
-use Rattle.scope.specs.declared.Depth.TheVariants.{Is as DepthIs, Nothing as NoDepth}
-use Rattle.scope.specs.declared.Found.{Found}
-use Rattle.scope.specs.declared.Found.TheVariants.{At, Nothing as NotFound}
 use Rattle.scope.specs.Codes.{DONE, LIMIT, START, FULL, EMPTY, OUTSIDE, MAX-HEIGHT}
 use Rattle.scope.specs.Words.{Stack, stack_of}
-
--- ---- What an answer says, for each enum that is one
-
-abbrev pub word_of : Word → Option ℕ
-word_of (WordIs v) = some v
-word_of NoWord = none
-
-abbrev pub depth_of : Depth → Option ℕ
-depth_of (DepthIs k) = some k
-depth_of NoDepth = none
-
-abbrev pub found_of : Found → Option ℕ
-found_of (At i) = some i
-found_of NotFound = none
 
 -- ---- How the code keeps a stack: in the last words of an array of 1,024, as many as the length field says; all of them where it says more
 

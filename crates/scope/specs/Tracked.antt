@@ -1,12 +1,13 @@
 -- Document 01, "What comes back" and "Port order" 3: what each call of 002's `TrackedStack` answers. Its sink and its `Vec` are two lent
 -- buffers of words with counts. Of several refusals at once the order is 23, 20, 21, 22, then 6, 7, 10, 11; a refusal changes nothing.
 use Rattle.std.specs.Prelude.{ℕ, ◌+◌, ◌-◌, ◌*◌, Bool, ◌||◌, List, [], ◌∷◌, length, get_or, set, drop, take, eqb, leb, ltb, if◌then◌else◌}
-use Rattle.std.proofs.Math.Option.{Option, none, some}
+use Rattle.std.specs.Prelude.{Option, None as none, Some as some, Result, Ok, Err}
 use Rattle.scope.specs.declared.Op.{Op}
 use Rattle.scope.specs.declared.Op.TheVariants.{Swap, Dup, Pop, Store, Load}
+use Rattle.scope.specs.declared.Refusal.{Refusal}
 use Rattle.scope.specs.declared.Step.{Step}
 use Rattle.scope.specs.declared.Step.TheVariants.{Wrote, Refused}
-use Rattle.scope.specs.Codes.{DONE, START, FILLED, SLOTS, MISSING, FULL, SPILL, OPS, EMPTY, OUTSIDE, UNFILLED, SWAP-OF-ZERO, MAX-HEIGHT, MAX-WORD}
+use Rattle.scope.specs.Codes.{number_of, DONE, START, FILLED, SLOTS, MISSING, FULL, SPILL, OPS, EMPTY, OUTSIDE, UNFILLED, SWAP-OF-ZERO, MAX-HEIGHT, MAX-WORD}
 use Rattle.scope.specs.Words.{if_zero, latest_of, Stack, stack_of}
 use Rattle.scope.specs.Machine.{record_words, capacity, over, kind, argument, swapped}
 
@@ -14,11 +15,16 @@ use Rattle.scope.specs.Machine.{record_words, capacity, over, kind, argument, sw
 
 abbrev pub step_code : Step → ℕ
 step_code (Wrote o) = DONE
-step_code (Refused r) = r
+step_code (Refused r) = number_of r
 
 abbrev pub step_op : Step → Option Op
 step_op (Wrote o) = some o
 step_op (Refused r) = none
+
+-- the answer of a step that may be refused
+abbrev pub step : Result Op Refusal → Step
+step (Ok o) = Wrote o
+step (Err r) = Refused r
 
 -- ---- What a tracked stack holds: the stack, the number of the first slot, how many slots are filled, how many operations are written.
 -- The two buffers stand beside it, every word of each.

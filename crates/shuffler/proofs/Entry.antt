@@ -2,7 +2,7 @@
 use Prim.Native.Nat.{ℕ, ◌+◌, ◌-◌, ◌*◌}
 use native.Mathlib.Omega.{arith}
 use mathlib.Core.Path.{◌≡◌, refl, sym, ap, ◌∙◌}
-use mathlib.Core.List.{[]}
+use mathlib.Core.List.{List, []}
 use lib.ListN.{length, take, take-append-drop}
 use lib.Seq.{length-take-le}
 use Rattle.scope.specs.Words.{Stack, stack_of}
@@ -13,7 +13,8 @@ use Rattle.scope.specs.Once.{Lent, job_lent, start_lent, shuffle_due}
 use Rattle.scope.proofs.JobCodes.{Passes}
 use Rattle.scope.proofs.Loops.{if-not}
 use Rattle.shuffler.specs.Held.{Holding, Held}
-use Rattle.shuffler.specs.Runs.{Tells}
+use Rattle.operations.specs.declared.ScheduleConfig.{ScheduleConfig}
+use Rattle.shuffler.specs.Runs.{About, Tells}
 use Rattle.shuffler.specs.Entry.{begins}
 
 -- a tracked stack by its fields
@@ -42,19 +43,19 @@ module _ (e : Lent) (ok : Passes e.S e.stack.height (length e.target) e.filled (
       }
 
   -- a run to its end is what is due
-  pub entry_done : code_of (job_lent e) (start_lent e) ≡ 0 → (r a b : ℕ) (y : Holding) → Tells e.target e.S e.D (begins e) r a b y run_from
+  pub entry_done : code_of (job_lent e) (start_lent e) ≡ 0 → (T : List ℕ) (config : ScheduleConfig) → About T config e → (r a b : ℕ) (y : Holding) → Tells T config (begins e) r a b y run_from
       → record { code = r; shrink_ticks = a; grow_ticks = b; ops = y.tracked.written - e.written; slots = y.tracked.filled; stack = y.tracked.stack; spill = y.spill; words = y.words }
       ≡ shuffle_due e
   unfolding shuffle_due shuffle
-  entry_done z r a b y t =
+  entry_done z T config about r a b y t =
       let s = started e.stack.values (take e.filled e.spill) in
-      let x = t.tells e s (record { target = refl; swaps = refl; dups = refl }) begin-held in
+      let x = t.tells e s about begin-held in
       let h = x.held in
       let n : y.tracked.written - e.written ≡ length (run_from (job_lent e) s).ops = omega (arith, h.written) in
       rw (z, n, x.code, x.shrink_ticks, x.grow_ticks, h.filled, h.stack, h.spill, h.words)
 
   -- and so is what is held then
-  pub state-done : code_of (job_lent e) (start_lent e) ≡ 0 → (r a b : ℕ) (y : Holding) → Tells e.target e.S e.D (begins e) r a b y run_from
+  pub state-done : code_of (job_lent e) (start_lent e) ≡ 0 → (T : List ℕ) (config : ScheduleConfig) → About T config e → (r a b : ℕ) (y : Holding) → Tells T config (begins e) r a b y run_from
       → y.tracked
       ≡ record {
         stack = stack_of (shuffle (job_lent e) (start_lent e)).stack;
@@ -63,9 +64,9 @@ module _ (e : Lent) (ok : Passes e.S e.stack.height (length e.target) e.filled (
         written = e.written + length (shuffle (job_lent e) (start_lent e)).ops;
       }
   unfolding shuffle
-  state-done z r a b y t =
+  state-done z T config about r a b y t =
       let s = started e.stack.values (take e.filled e.spill) in
-      let x = t.tells e s (record { target = refl; swaps = refl; dups = refl }) begin-held in
+      let x = t.tells e s about begin-held in
       let h = x.held in
       rw z (tracked-is y.tracked _ _ _ _ h.stack h.first h.filled h.written)
 

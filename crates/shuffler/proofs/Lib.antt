@@ -1,7 +1,6 @@
 pub mod Held
 pub mod Runs
-pub mod Entry
 pub mod Performing
 pub mod Picks
-pub mod Returns
+pub mod Entry
 pub mod Entries

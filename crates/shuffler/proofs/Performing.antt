@@ -1,95 +1,97 @@
 -- Performing a choice: each tracked call is one operation of the plan, and two operations are one after the other.
 use Rattle.std.specs.Prelude.{if◌then◌else◌}
-use Prim.Native.Nat.{ℕ, zero, suc, ◌+◌, ◌/◌, ◌<◌, ◌≤◌}
+use Prim.Native.Nat.{ℕ, zero, suc, ◌+◌, ◌<◌}
 use native.Mathlib.Omega.{arith}
-use mathlib.Core.Path.{◌≡◌, refl, sym, ap, ◌∙◌}
+use mathlib.Core.Path.{◌≡◌, refl, sym, ◌∙◌}
 use mathlib.Core.Bool.{Bool, true, false}
-use mathlib.Core.Option.{some, none-ne-some, some-ne-none, some-injective}
+use Rattle.std.proofs.Common.{None as none, Some as some}
+use Rattle.std.proofs.lemmas.Option.{none-some as none-ne-some, same_Some as some-injective}
 use mathlib.Core.List.{List, [], ◌∷◌, append-nil}
-use borrow.Author.Tests.{eqb-false, eq-eqb, ne_eqb, le-ltb}
-use lib.ListN.{length, drop, length-drop, length-set}
-use lib.Dec.{eqb, leb, ltb}
+use borrow.Author.Tests.{eq-eqb, ne_eqb, le-ltb}
+use lib.ListN.{length, length-set}
+use lib.Dec.{eqb, ltb}
 use Rattle.scope.specs.declared.Op.TheVariants.{Swap, Pop}
-use Rattle.scope.specs.declared.Word.{Word}
-use Rattle.scope.specs.declared.Word.TheVariants.{Is, Nothing}
 use Rattle.scope.specs.Words.{if_zero}
-use Rattle.scope.specs.Stack.{fifo, word_of}
 use Rattle.scope.specs.Rules.{Job, State}
 use Rattle.scope.specs.Shuffle.{Ended, ended, after as after_op, perform, no_record}
 use Rattle.scope.specs.Tracked.{Stepped, pop_step, swap_step, dup_step, load_step, spill_step, numbered}
 use Rattle.scope.specs.Once.{Lent, job_lent}
 use Rattle.rules.specs.declared.Choice.TheVariants as C
 use Rattle.rules.specs.Promises.{swap_of}
-use Rattle.tracked.specs.declared.Moved.{Moved}
-use Rattle.tracked.specs.Promises.{tracked_in, Steps, Spills}
-use Rattle.shuffler.specs.declared.Progress.{Progress}
-use Rattle.shuffler.specs.declared.Performed.{Performed}
-use Rattle.shuffler.specs.Held.{Held, stepped, Ran}
-use Rattle.shuffler.specs.Performing.{holding, moved_to, Performs}
+use Rattle.tracked.specs.declared.TrackedStack.{TrackedStack}
+use Rattle.tracked.specs.Promises.{tracked_of}
+use Rattle.shuffler.specs.Held.{Holding, holding, Held, stepped, Ran}
+use Rattle.shuffler.specs.Performing.{Performs}
 use Rattle.shuffler.proofs.Held.{pop-ran, swap-ran, dup-ran, load-ran, store-ran}
 use Rattle.shuffler.proofs.Runs.{height, seq-stop, seq-go}
-
--- a stack has no more values than its length says
-fifo-long : (raw : List ℕ) (len : ℕ) → length (fifo raw len) ≤ len
-unfolding fifo
-fifo-long raw len = simp length-drop (omega arith)
 
 -- a slot that has a number
 slot_is : (first i id : ℕ) → some id ≡ numbered first (some i) → id ≡ first + i
 slot_is first i id e = go (ltb 4294967295 (first + i)) refl
   where
     go : (b : Bool) → ltb 4294967295 (first + i) ≡ b → id ≡ first + i
-    go true q = absurd (some-ne-none id (rw q at e))
+    go true q = absurd (none-ne-some id (sym (rw q at e)))
     go false q = some-injective id (first + i) (rw q at e)
 
--- ---- one tracked call
+-- ---- one tracked call, which answers a code and leaves a tracked stack
 
--- raw, ops and p before the call, m its answer, raw' and ops' after it
-module _ (raw ops : List ℕ) (p : Progress) (m : Moved) (raw' ops' : List ℕ) (r : Performed) (is : r ≡ moved_to m p.complete) where
-  seen : (to : Stepped) → Steps to m.step m.numbers raw raw' ops' → (e : Lent) (spill : List ℕ) (d : Ended)
-      → Ran e to.code (stepped (holding raw p ops spill) to spill) d → Ran e r.code (holding raw' r.progress ops' spill) d
-  seen to st e spill d q = rw is (rw (← st.answer) at q)
+module _ (old : TrackedStack) (r : ℕ) (new : TrackedStack) where
+  -- each part of what it answers and leaves is the definition's
+  seen : (to : Stepped) (spill : List ℕ) → r ≡ to.code → tracked_of new ≡ to.state → new.ops.now ≡ to.words → new.spill.now ≡ spill
+      → (c : ℕ) (e : Lent) (d : Ended) → Ran e to.code (stepped (holding c old) to spill) d → Ran e r (holding c new) d
+  seen to spill is state words stays c e d q = rw (is, state, words, stays) q
 
-  pub pop-performs : Steps (pop_step (tracked_in raw p.numbers) ops) m.step m.numbers raw raw' ops'
-      → (spill : List ℕ) → Performs (holding raw p ops spill) r.code (holding raw' r.progress ops' spill) C.Pop
-  pop-performs st spill = record { performs = λ e s k h f. seen _ st e spill _ (pop-ran e (holding raw p ops spill) s h k f) }
-
-  pub swap-performs : (d : ℕ) → (d ≡ 0 → ⊥) → Steps (swap_step d (tracked_in raw p.numbers) ops) m.step m.numbers raw raw' ops'
-      → (spill : List ℕ) → Performs (holding raw p ops spill) r.code (holding raw' r.progress ops' spill) (C.Swap d)
-  swap-performs d ne st spill = record { performs = λ e s k h f. rw (ne_eqb d 0 ne) (seen _ st e spill _ (swap-ran e (holding raw p ops spill) s h k d (omega arith) f)) }
-
-  pub dup-performs : (d : ℕ) → Steps (dup_step d (tracked_in raw p.numbers) ops) m.step m.numbers raw raw' ops'
-      → (spill : List ℕ) → Performs (holding raw p ops spill) r.code (holding raw' r.progress ops' spill) (C.Dup d)
-  dup-performs d st spill = record { performs = λ e s k h f. seen _ st e spill _ (dup-ran e (holding raw p ops spill) s h k d f) }
-
-  pub load-performs : (spill : List ℕ) (i id : ℕ) (slot : Word) → slot ≡ Is id → word_of slot ≡ numbered p.numbers.first (some i)
-      → Steps (load_step id (tracked_in raw p.numbers) ops spill) m.step m.numbers raw raw' ops'
-      → Performs (holding raw p ops spill) r.code (holding raw' r.progress ops' spill) (C.Load i)
-  unfolding tracked_in
-  load-performs spill i id slot w n st = record {
-    performs = λ e s k h f.
-        let z = slot_is p.numbers.first i id (rw w at n) in
-        seen _ (rw z at st) e spill _ (load-ran e (holding raw p ops spill) s h k i f);
+  pub pop_performs : r ≡ (pop_step (tracked_of old) old.ops.now).code → tracked_of new ≡ (pop_step (tracked_of old) old.ops.now).state
+      → new.ops.now ≡ (pop_step (tracked_of old) old.ops.now).words → new.spill.now ≡ old.spill.now → (c : ℕ) → Performs (holding c old) r (holding c new) C.Pop
+  pop_performs is state words stays c = record {
+    performs = λ e s k h f. seen (pop_step (tracked_of old) old.ops.now) old.spill.now is state words stays c e _ (pop-ran e (holding c old) s h k f);
   }
 
-  pub store-performs : (spill spill' : List ℕ) → Spills (spill_step (tracked_in raw p.numbers) ops spill) m.step m.numbers raw raw' ops' spill'
-      → Performs (holding raw p ops spill) r.code (holding raw' r.progress ops' spill') C.Store
-  store-performs spill spill' st = record { performs = λ e s k h f. rw is (rw (← st.answer) at (store-ran e (holding raw p ops spill) s h k f)) }
+  pub swap_performs : (d : ℕ) → (d ≡ 0 → ⊥) → r ≡ (swap_step d (tracked_of old) old.ops.now).code → tracked_of new ≡ (swap_step d (tracked_of old) old.ops.now).state
+      → new.ops.now ≡ (swap_step d (tracked_of old) old.ops.now).words → new.spill.now ≡ old.spill.now → (c : ℕ) → Performs (holding c old) r (holding c new) (C.Swap d)
+  swap_performs d ne is state words stays c = record {
+    performs = λ e s k h f.
+        rw (ne_eqb d 0 ne) (seen (swap_step d (tracked_of old) old.ops.now) old.spill.now is state words stays c e _ (swap-ran e (holding c old) s h k d (omega arith) f));
+  }
+
+  pub dup_performs : (d : ℕ) → r ≡ (dup_step d (tracked_of old) old.ops.now).code → tracked_of new ≡ (dup_step d (tracked_of old) old.ops.now).state
+      → new.ops.now ≡ (dup_step d (tracked_of old) old.ops.now).words → new.spill.now ≡ old.spill.now → (c : ℕ) → Performs (holding c old) r (holding c new) (C.Dup d)
+  dup_performs d is state words stays c = record {
+    performs = λ e s k h f. seen (dup_step d (tracked_of old) old.ops.now) old.spill.now is state words stays c e _ (dup-ran e (holding c old) s h k d f);
+  }
+
+  pub load_performs : (i id : ℕ) → some id ≡ numbered old.first (some i)
+      → r ≡ (load_step id (tracked_of old) old.ops.now old.spill.now).code → tracked_of new ≡ (load_step id (tracked_of old) old.ops.now old.spill.now).state
+      → new.ops.now ≡ (load_step id (tracked_of old) old.ops.now old.spill.now).words → new.spill.now ≡ old.spill.now
+      → (c : ℕ) → Performs (holding c old) r (holding c new) (C.Load i)
+  load_performs i id n is state words stays c = record {
+    performs = λ e s k h f.
+        let z = slot_is old.first i id n in
+        seen (load_step (old.first + i) (tracked_of old) old.ops.now old.spill.now) old.spill.now (rw z at is) (rw z at state) (rw z at words) stays c e _ (load-ran e (holding c old) s h k i f);
+  }
+
+  pub store_performs : r ≡ (spill_step (tracked_of old) old.ops.now old.spill.now).step.code → tracked_of new ≡ (spill_step (tracked_of old) old.ops.now old.spill.now).step.state
+      → new.ops.now ≡ (spill_step (tracked_of old) old.ops.now old.spill.now).step.words → new.spill.now ≡ (spill_step (tracked_of old) old.ops.now old.spill.now).spill
+      → (c : ℕ) → Performs (holding c old) r (holding c new) C.Store
+  store_performs is state words stays c = record {
+    performs = λ e s k h f.
+        let to = spill_step (tracked_of old) old.ops.now old.spill.now in
+        seen to.step to.spill is state words stays c e _ (store-ran e (holding c old) s h k f);
+  }
 
 -- ---- what needs no call
 
 -- a swap at depth 0
-pub swap-nothing : (raw ops : List ℕ) (p : Progress) (d : ℕ) → d ≡ 0 → (spill : List ℕ) → Performs (holding raw p ops spill) 0 (holding raw p ops spill) (C.Swap d)
+pub swap_nothing : (x : Holding) (d : ℕ) → d ≡ 0 → Performs x 0 x (C.Swap d)
 unfolding perform
-swap-nothing raw ops p d z spill = record { performs = λ e s k h f. rw (eq-eqb d 0 z) (record { code = refl; held = h }) }
+swap_nothing x d z = record { performs = λ e s k h f. rw (eq-eqb d 0 z) (record { code = refl; held = h }) }
 
--- a slot of the list always has a number
-pub load-nothing : (raw ops spill : List ℕ) (p : Progress) (i : ℕ) (slot : Word) → slot ≡ Nothing → word_of slot ≡ numbered p.numbers.first (some i) → Performs (holding raw p ops spill) 6 (holding raw p ops spill) (C.Load i)
-unfolding tracked_in
-load-nothing raw ops spill p i slot w n = record {
+-- a slot of the list has a number
+pub load_nothing : (old : TrackedStack) (r i : ℕ) → none ≡ numbered old.first (some i) → (c : ℕ) → Performs (holding c old) r (holding c old) (C.Load i)
+load_nothing old r i n c = record {
   performs = λ e s k h f.
-      let q = le-ltb 4294967295 (p.numbers.first + i) (omega (arith, h.first, h.numbers, h.slots)) in
-      absurd (none-ne-some (p.numbers.first + i) (rw (w, q) at n));
+      let q = le-ltb 4294967295 (old.first + i) (omega (arith, h.first, h.numbers, h.slots)) in
+      absurd (none-ne-some (old.first + i) (rw q at n));
 }
 
 -- ---- two operations
@@ -107,64 +109,29 @@ swap-height j s k d = go (eqb d 0)
     go true = refl
     go false = at (no_record j s) (no_record j s)
 
-module _ (raw ops : List ℕ) (p : Progress) (raw₁ ops₁ : List ℕ) (r : ℕ) (q : Progress) (d : ℕ)
-    (first : (spill : List ℕ) → Performs (holding raw p ops spill) r (holding raw₁ q ops₁ spill) (C.Swap d)) where
-  swapping : (spill : List ℕ) (e : Lent) (s : State) (k : ℕ) → Held e (holding raw p ops spill) s → d < length s.C
-      → Ran e r (holding raw₁ q ops₁ spill) (perform (job_lent e) s k (swap_of d))
-  swapping spill e s k h f = rw (← append-nil (swap_of d)) ((first spill).performs e s k h f)
+module _ (x : Holding) (r : ℕ) (y : Holding) (d : ℕ) (first : Performs x r y (C.Swap d)) where
+  swapping : (e : Lent) (s : State) (k : ℕ) → Held e x s → d < length s.C → Ran e r y (perform (job_lent e) s k (swap_of d))
+  swapping e s k h f = rw (← append-nil (swap_of d)) (first.performs e s k h f)
 
-  pub swap-pop-stop : (r ≡ 0 → ⊥) → (spill : List ℕ) → Performs (holding raw p ops spill) r (holding raw₁ q ops₁ spill) (C.SwapPop d)
-  swap-pop-stop ne spill = record { performs = λ e s k h f. seq-stop e s k (swap_of d) (Pop ∷ []) r (holding raw₁ q ops₁ spill) (swapping spill e s k h f) ne }
+  pub swap_pop_stops : (r ≡ 0 → ⊥) → Performs x r y (C.SwapPop d)
+  swap_pop_stops ne = record { performs = λ e s k h f. seq-stop e s k (swap_of d) (Pop ∷ []) r y (swapping e s k h f) ne }
 
-  pub swaps-stop : (to : ℕ) → (r ≡ 0 → ⊥) → (spill : List ℕ) → Performs (holding raw p ops spill) r (holding raw₁ q ops₁ spill) (C.Swaps d to)
-  swaps-stop to ne spill = record { performs = λ e s k h f. seq-stop e s k (swap_of d) (swap_of to) r (holding raw₁ q ops₁ spill) (swapping spill e s k h f.0) ne }
+  pub swaps_stops : (to : ℕ) → (r ≡ 0 → ⊥) → Performs x r y (C.Swaps d to)
+  swaps_stops to ne = record { performs = λ e s k h f. seq-stop e s k (swap_of d) (swap_of to) r y (swapping e s k h f.0) ne }
 
   -- the height after the swap is the one before it, whatever state is held then
-  same-height : (spill : List ℕ) (e : Lent) (s : State) (k : ℕ) → Held e (holding raw p ops spill) s → d < length s.C → (s' : State) → Held e (holding raw₁ q ops₁ spill) s' → length s'.C ≡ length s.C
-  same-height spill e s k h f s' h' =
-      let y = holding raw₁ q ops₁ spill in
-      sym (height e y s' h') ∙ height e y _ (swapping spill e s k h f).held ∙ swap-height (job_lent e) s k d
+  same-height : (e : Lent) (s : State) (k : ℕ) → Held e x s → d < length s.C → (s' : State) → Held e y s' → length s'.C ≡ length s.C
+  same-height e s k h f s' h' = sym (height e y s' h') ∙ height e y _ (swapping e s k h f).held ∙ swap-height (job_lent e) s k d
 
-  pub swap-pop-go : (ops₂ : List ℕ) (r₂ : ℕ) (q₂ : Progress) → r ≡ 0 → ((spill : List ℕ) → Performs (holding raw₁ q ops₁ spill) r₂ (holding raw₁ q₂ ops₂ spill) C.Pop)
-      → (spill : List ℕ) → Performs (holding raw p ops spill) r₂ (holding raw₁ q₂ ops₂ spill) (C.SwapPop d)
-  swap-pop-go ops₂ r₂ q₂ o second spill = record {
+  pub swap_pop_goes : (q : ℕ) (z : Holding) → r ≡ 0 → Performs y q z C.Pop → Performs x q z (C.SwapPop d)
+  swap_pop_goes q z o second = record {
     performs = λ e s k h f.
-        seq-go e s k (swap_of d) (Pop ∷ []) r (holding raw₁ q ops₁ spill) (swapping spill e s k h f) r₂ (holding raw₁ q₂ ops₂ spill) o
-        (λ s' h'. (second spill).performs e s' k h' (omega (arith, same-height spill e s k h f s' h')));
+        seq-go e s k (swap_of d) (Pop ∷ []) r y (swapping e s k h f) q z o (λ s' h'. second.performs e s' k h' (omega (arith, same-height e s k h f s' h')));
   }
 
-  pub swaps-go : (to : ℕ) (raw₂ ops₂ : List ℕ) (r₂ : ℕ) (q₂ : Progress) → r ≡ 0 → ((spill : List ℕ) → Performs (holding raw₁ q ops₁ spill) r₂ (holding raw₂ q₂ ops₂ spill) (C.Swap to))
-      → (spill : List ℕ) → Performs (holding raw p ops spill) r₂ (holding raw₂ q₂ ops₂ spill) (C.Swaps d to)
-  swaps-go to raw₂ ops₂ r₂ q₂ o second spill = record {
+  pub swaps_goes : (to q : ℕ) (z : Holding) → r ≡ 0 → Performs y q z (C.Swap to) → Performs x q z (C.Swaps d to)
+  swaps_goes to q z o second = record {
     performs = λ e s k h f.
-        seq-go e s k (swap_of d) (swap_of to) r (holding raw₁ q ops₁ spill) (swapping spill e s k h f.0) r₂ (holding raw₂ q₂ ops₂ spill) o
-        (λ s' h'. rw (← append-nil (swap_of to)) ((second spill).performs e s' k h' (omega (arith, same-height spill e s k h f.0 s' h', f.1))));
+        seq-go e s k (swap_of d) (swap_of to) r y (swapping e s k h f.0) q z o
+        (λ s' h'. rw (← append-nil (swap_of to)) (second.performs e s' k h' (omega (arith, same-height e s k h f.0 s' h', f.1))));
   }
-
--- ---- the pop of the finish
-
--- a pop that is done lowers the length
-pub pop-falls : (raw ops : List ℕ) (p : Progress) (m : Moved) (ops' : List ℕ) (r : Performed) → r ≡ moved_to m p.complete
-    → Steps (pop_step (tracked_in raw p.numbers) ops) m.step m.numbers raw raw ops' → r.code ≡ 0 → r.progress.numbers.len < p.numbers.len
-unfolding pop_step tracked_in
-pop-falls raw ops p m ops' r is st z = rw is (go (eqb (length (fifo raw p.numbers.len)) 0) refl (leb (length ops / 2) p.numbers.written) refl)
-  where
-    to : Stepped
-    to = pop_step (tracked_in raw p.numbers) ops
-
-    code : to.code ≡ 0
-    code = ap (λ (d : Stepped). d.code) (sym st.answer) ∙ rw is at z
-
-    len : m.numbers.len ≡ to.state.stack.height
-    len = ap (λ (d : Stepped). d.state.stack.height) st.answer
-
-    long : length (fifo raw p.numbers.len) ≤ p.numbers.len
-    long = fifo-long raw p.numbers.len
-
-    go : (b : Bool) → eqb (length (fifo raw p.numbers.len)) 0 ≡ b → (c : Bool) → leb (length ops / 2) p.numbers.written ≡ c → m.numbers.len < p.numbers.len
-    go true e c q = let y : ◌≡◌ {A = ℕ} 20 0 = rw e at code in absurd (omega arith)
-    go false e true q = let y : ◌≡◌ {A = ℕ} 11 0 = rw (e, q) at code in absurd (omega arith)
-    go false e false q =
-        let y : m.numbers.len ≡ length (drop 1 (fifo raw p.numbers.len)) = rw (e, q) at len in
-        let n : length (fifo raw p.numbers.len) ≡ 0 → ⊥ = eqb-false (length (fifo raw p.numbers.len)) 0 e in
-        omega (arith, y, long, length-drop 1 (fifo raw p.numbers.len))

@@ -2,10 +2,12 @@
 use Rattle.std.specs.Prelude.{ℕ, ◌+◌, ◌-◌, ◌*◌, ◌≤◌, ◌≡◌, List, length}
 use Rattle.scope.specs.Words.{stack_of}
 use Rattle.scope.specs.Machine.{record_words, capacity, words_of, over, over_from}
-use Rattle.scope.specs.Rules.{Job, State}
+use Rattle.scope.specs.Rules.{State}
 use Rattle.scope.specs.Shuffle.{Ended}
 use Rattle.scope.specs.Tracked.{Tracked, Stepped}
-use Rattle.scope.specs.Once.{Lent, job_lent}
+use Rattle.scope.specs.Once.{Lent}
+use Rattle.tracked.specs.declared.TrackedStack.{TrackedStack}
+use Rattle.tracked.specs.Promises.{tracked_of}
 
 -- What the code holds during a run: the tracked stack, every word of its two buffers, the completed count.
 pub record Holding : Type 0 where
@@ -13,6 +15,10 @@ pub record Holding : Type 0 where
   pub words : List ℕ
   pub spill : List ℕ
   pub complete : ℕ
+
+-- a tracked stack and a completed count hold this
+abbrev pub holding : ℕ → TrackedStack → Holding
+holding complete t = record { tracked = tracked_of t; words = t.ops.now; spill = t.spill.now; complete = complete }
 
 -- Held e x s: with e lent, what the code holds is the state s of that job.
 pub record Held (e : Lent) (x : Holding) (s : State) : Type 0 where
@@ -36,7 +42,3 @@ stepped x d spill = record { tracked = d.state; words = d.words; spill = spill; 
 pub record Ran (e : Lent) (r : ℕ) (x : Holding) (d : Ended) : Type 0 where
   pub code : r ≡ d.code
   pub held : Held e x d.state
-
--- Leads x r y work: whatever state x held, y holds the end of the work on it, and r is the work's.
-pub record Leads (x : Holding) (r : ℕ) (y : Holding) (work : Job → State → ℕ → Ended) : Type 0 where
-  pub leads : (e : Lent) (s : State) (k : ℕ) → Held e x s → Ran e r y (work (job_lent e) s k)

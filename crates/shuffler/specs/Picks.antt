@@ -1,19 +1,25 @@
--- Counting in code, and what a turn does: a choice performed, and counting after it.
-use Rattle.std.specs.Prelude.{ℕ, ◌≡◌, List, length}
-use Rattle.scope.specs.Stack.{fifo}
-use Rattle.scope.specs.Rules.{State}
-use Rattle.scope.specs.Once.{Lent, job_lent}
+-- What a loop asks and picks, of what the rules look at.
+use Rattle.std.specs.Prelude.{ℕ, ◌≡◌, Bool, true, List, length, Result}
+use Rattle.scope.specs.declared.Op.{Op}
+use Rattle.scope.specs.declared.Refusal.{Refusal}
+use Rattle.scope.specs.Rules.{Job, State, Plan}
+use Rattle.questions.specs.declared.View.{View}
 use Rattle.rules.specs.declared.Choice.{Choice}
-use Rattle.rules.specs.Promises.{plan_of, Fit, counted_in}
-use Rattle.shuffler.specs.declared.Progress.{Progress}
-use Rattle.shuffler.specs.Held.{Holding, Held, Ran}
-use Rattle.shuffler.specs.Runs.{turned}
+use Rattle.rules.specs.Promises.{job, state, always, planned, Fits}
 
--- the same numbers, with the completed count of now
-abbrev pub recounted : List ℕ → List ℕ → Progress → Progress
-recounted raw T p = record { numbers = p.numbers; complete = counted_in (fifo raw p.numbers.len) T p.complete }
+-- a job and a state that are looked at so, with the first slot's number, the slots, the room, and the operations written
+abbrev pub job_of : View → ℕ → ℕ → ℕ → Job
+job_of v first slots room = job v.config.max_swap_depth v.config.max_dup_depth v.target.now first slots room
 
--- Whatever state of a job with this target was held, if the choice can be performed on it, its turn's end is held after.
-pub record Turns (T : List ℕ) (x : Holding) (r : ℕ) (y : Holding) (choice : Choice) : Type 0 where
-  pub turns : (e : Lent) (s : State) (k : ℕ) → e.target ≡ T → Held e x s → Fit (length s.C) (length s.spilled) choice
-      → Ran e r y (turned (plan_of e.first (length s.spilled) choice) (job_lent e) s k)
+abbrev pub state_of : View → List Op → State
+state_of v os = state v.current.now v.complete v.spilled.now os
+
+-- r is what a loop's test says, whatever the slots' numbers, the room and the operations
+pub record Goes (v : View) (goes : Job → State → Bool) (r : Bool) : Type 0 where
+  pub is : (first slots room : ℕ) (os : List Op) → r ≡ goes (job_of v first slots room) (state_of v os)
+
+-- r is what a loop's plan says; where the loop goes on, it can be performed
+pub record Picks (v : View) (goes : Job → State → Bool) (plan : Job → State → Plan) (r : Result Choice Refusal) : Type 0 where
+  pub is : (first slots room : ℕ) (os : List Op) → planned first (length v.spilled.now) (always r) ≡ plan (job_of v first slots room) (state_of v os)
+  pub fit : (first slots room : ℕ) (os : List Op) → goes (job_of v first slots room) (state_of v os) ≡ true
+      → Fits (length v.current.now) (length v.spilled.now) (always r)

@@ -1,9 +1,13 @@
 -- What the public calls promise: which field of an answer, and which lent word, is which of scope's.
 use Rattle.std.specs.Prelude.{ℕ, ◌+◌, ◌≡◌, List, [], length}
+use Rattle.std.specs.Prelude.{Err}
+use Rattle.scope.specs.declared.Refusal.{Refusal}
+use Rattle.scope.specs.Codes.{code}
 use Rattle.scope.specs.Words.{if_zero, stack_of}
 use Rattle.scope.specs.Shuffle.{code_of, shuffle}
 use Rattle.scope.specs.Tracked.{Tracked}
 use Rattle.scope.specs.Once.{Lent, job_lent, start_lent, Seen}
+use Rattle.stack.specs.declared.EvmStack.{EvmStack}
 use Rattle.stack.specs.Promises.{stack_in}
 use Rattle.operations.specs.declared.ScheduleConfig.{ScheduleConfig}
 use Rattle.tracked_state.specs.declared.TrackedState.{TrackedState}
@@ -13,7 +17,7 @@ use Rattle.shuffler.specs.declared.Ended.{Ended}
 -- what is seen of an answer and of the two buffers after the call
 abbrev pub seen_in : Answer → List ℕ → List ℕ → Seen
 seen_in r spill words = record {
-  code = r.code;
+  code = code r.outcome;
   shrink_ticks = r.shrink_ticks;
   grow_ticks = r.grow_ticks;
   ops = r.ops;
@@ -23,25 +27,20 @@ seen_in r spill words = record {
   words = words;
 }
 
--- the answer to a run that ended so, with its stack in these words
-abbrev pub answer_in : Ended → List ℕ → Answer
-answer_in e raw = record {
-  code = e.code;
+-- the answer to a run that ended so, with its stack
+abbrev pub answer_in : Ended → EvmStack → Answer
+answer_in e stack = record {
+  outcome = e.outcome;
   shrink_ticks = e.shrink_ticks;
   grow_ticks = e.grow_ticks;
-  ops = e.progress.numbers.written;
-  slots = e.progress.numbers.filled;
-  stack = record { stack_raw = raw; stack_len = e.progress.numbers.len };
+  ops = e.ops;
+  slots = e.slots;
+  stack = stack;
 }
 
--- an end with a code and nothing else
-abbrev pub stopped_at : ℕ → Ended
-stopped_at code = record {
-  code = code;
-  shrink_ticks = 0;
-  grow_ticks = 0;
-  progress = record { numbers = record { len = 0; first = 0; filled = 0; written = 0 }; complete = 0 };
-}
+-- an end with a refusal and nothing else
+abbrev pub stopped_by : Refusal → Ended
+stopped_by r = record { outcome = Err r; shrink_ticks = 0; grow_ticks = 0; ops = 0; slots = 0 }
 
 -- what is lent to `shuffle`: nothing is written yet
 abbrev pub lent_plain : List ℕ → List ℕ → ℕ → ℕ → List ℕ → ScheduleConfig → List ℕ → Lent
@@ -84,10 +83,10 @@ pub record KeptIfRefused (e : Lent) (before after : TrackedState) : Type 0 where
   pub keeps : (code_of (job_lent e) (start_lent e) ≡ 0 → ⊥) → after ≡ before
 
 -- an answer with a code, zero counts and an empty stack
-pub record Refuses (code : ℕ) (r : Answer) : Type 0 where
-  pub is : r.code ≡ code
-  pub shrink_ticks : r.shrink_ticks ≡ 0
-  pub grow_ticks : r.grow_ticks ≡ 0
-  pub ops : r.ops ≡ 0
-  pub slots : r.slots ≡ 0
-  pub stack : stack_in r.stack ≡ stack_of []
+pub record Refuses (r : ℕ) (a : Answer) : Type 0 where
+  pub is : code a.outcome ≡ r
+  pub shrink_ticks : a.shrink_ticks ≡ 0
+  pub grow_ticks : a.grow_ticks ≡ 0
+  pub ops : a.ops ≡ 0
+  pub slots : a.slots ≡ 0
+  pub stack : stack_in a.stack ≡ stack_of []

@@ -1,127 +1,102 @@
-// Performing a choice, through tracked's calls. A choice that a rule made names depths inside the stack and filled slots, so that 20 to 23
-// do not come; 7, 10 and 11 come before anything of their operation is done.
-ghost use Rattle.std.specs.Prelude.{◌≡◌, List, ℕ, ◌<◌};
+//! Performing a choice, by the tracked stack's calls. A choice that a rule made names depths inside the stack and filled slots, so that
+//! `Refusal::Empty` to `Refusal::SwapOfZero` do not come; what comes, comes before anything of its operation is done.
+ghost use Rattle.std.specs.Prelude.{ℕ};
+ghost use Rattle.scope.specs.Codes.{code};
 ghost use Rattle.rules.specs.declared.Choice.TheVariants as C;
-ghost use Rattle.shuffler.specs.Performing.{holding, moved_to, Performs};
+ghost use Rattle.tracked.specs.Promises.{SameLoans};
+ghost use Rattle.shuffler.specs.Held.{holding};
+ghost use Rattle.shuffler.specs.Performing.{Performs};
 
-use crate::{Performed, Progress};
 use rules::Choice;
-use scope::{Step, Word};
-use tracked::Moved;
+use scope::Refusal;
+use tracked::TrackedStack;
 
-// What a tracked call answered, as a code, with the completed count beside it.
-fn moved(m: Moved, complete: usize) -> Performed
-    ensures { result ≡ moved_to m complete }
+/// Drops the top.
+#[tactic(auto, using(crate::proofs::Performing::pop_performs))]
+pub(crate) fn pop(current: &mut TrackedStack) -> Result<(), Refusal>
+    ensures loans { SameLoans current.old current.new }
+    ensures held { (c : ℕ) → Performs (holding c current.old) (code result) (holding c current.new) C.Pop }
 {
-    let step = m.step;
-    let numbers = m.numbers;
-    let progress = Progress { numbers, complete };
-    match step {
-        Step::Wrote(_) => Performed { code: 0, progress },
-        Step::Refused(code) => Performed { code, progress },
-    }
+    current.try_pop()?;
+    Ok(())
 }
 
-// Pops the top. A pop that is done lowers the length.
-pub(crate) fn pop(raw: &[u32; 1024], p: Progress, ops: &mut [u32]) -> Performed
-    ensures { ((spill : List ℕ) → Performs (holding raw.now p ops.old spill) result.code (holding raw.now result.progress ops.new spill) C.Pop)
-        × (result.code ≡ 0 → result.progress.numbers.len < p.numbers.len) }
-{
-    let n = p.numbers;
-    moved(tracked::pop(raw, n, ops), p.complete)
-}
-
-// Swaps the top with a depth; at depth 0 nothing is written.
-fn swap(raw: &mut [u32; 1024], p: Progress, ops: &mut [u32], depth: u8) -> Performed
-    ensures { (spill : List ℕ) → Performs (holding raw.old p ops.old spill) result.code (holding raw.new result.progress ops.new spill) (C.Swap depth) }
+/// Exchanges the top with the value at a depth; nothing at depth 0.
+#[tactic(auto, using(crate::proofs::Performing::swap_performs, crate::proofs::Performing::swap_nothing))]
+fn swap(current: &mut TrackedStack, depth: u8) -> Result<(), Refusal>
+    ensures loans { SameLoans current.old current.new }
+    ensures held { (c : ℕ) → Performs (holding c current.old) (code result) (holding c current.new) (C.Swap depth) }
 {
     if depth == 0 {
-        return Performed {
-            code: 0,
-            progress: p,
-        };
+        return Ok(());
     }
-    let n = p.numbers;
-    moved(tracked::swap(raw, n, ops, depth), p.complete)
+    current.try_swap(depth)?;
+    Ok(())
 }
 
-// Swaps, and then pops what came to the top.
-fn swap_pop(raw: &mut [u32; 1024], p: Progress, ops: &mut [u32], depth: u8) -> Performed
-    ensures { (spill : List ℕ) → Performs (holding raw.old p ops.old spill) result.code (holding raw.new result.progress ops.new spill) (C.SwapPop depth) }
+/// Exchanges the top with the value at a depth, and drops what came to the top.
+#[tactic(auto, using(crate::proofs::Performing::swap_pop_stops, crate::proofs::Performing::swap_pop_goes))]
+fn swap_pop(current: &mut TrackedStack, depth: u8) -> Result<(), Refusal>
+    ensures loans { SameLoans current.old current.new }
+    ensures held { (c : ℕ) → Performs (holding c current.old) (code result) (holding c current.new) (C.SwapPop depth) }
 {
-    let m = swap(raw, p, ops, depth);
-    if m.code != 0 {
-        return m;
-    }
-    let next = m.progress;
-    pop(raw, next, ops)
+    swap(current, depth)?;
+    pop(current)
 }
 
-// Two swaps, through the top.
-fn swaps(raw: &mut [u32; 1024], p: Progress, ops: &mut [u32], from: u8, to: u8) -> Performed
-    ensures { (spill : List ℕ) → Performs (holding raw.old p ops.old spill) result.code (holding raw.new result.progress ops.new spill) (C.Swaps from to) }
+/// Two exchanges, through the top.
+#[tactic(auto, using(crate::proofs::Performing::swaps_stops, crate::proofs::Performing::swaps_goes))]
+fn swaps(current: &mut TrackedStack, from: u8, to: u8) -> Result<(), Refusal>
+    ensures loans { SameLoans current.old current.new }
+    ensures held { (c : ℕ) → Performs (holding c current.old) (code result) (holding c current.new) (C.Swaps from to) }
 {
-    let m = swap(raw, p, ops, from);
-    if m.code != 0 {
-        return m;
-    }
-    let next = m.progress;
-    swap(raw, next, ops, to)
+    swap(current, from)?;
+    swap(current, to)
 }
 
-// Pushes a copy of a depth.
-fn dup(raw: &mut [u32; 1024], p: Progress, ops: &mut [u32], depth: u8) -> Performed
-    ensures { (spill : List ℕ) → Performs (holding raw.old p ops.old spill) result.code (holding raw.new result.progress ops.new spill) (C.Dup depth) }
+/// Puts a copy of the value at a depth on top.
+#[tactic(auto, using(crate::proofs::Performing::dup_performs))]
+fn dup(current: &mut TrackedStack, depth: u8) -> Result<(), Refusal>
+    ensures loans { SameLoans current.old current.new }
+    ensures held { (c : ℕ) → Performs (holding c current.old) (code result) (holding c current.new) (C.Dup depth) }
 {
-    let n = p.numbers;
-    moved(tracked::dup(raw, n, ops, depth), p.complete)
+    current.try_dup(depth)?;
+    Ok(())
 }
 
-// Stores the top in the next slot.
-fn store(raw: &[u32; 1024], p: Progress, ops: &mut [u32], spill: &mut [u32]) -> Performed
-    ensures { Performs (holding raw.now p ops.old spill.old) result.code (holding raw.now result.progress ops.new spill.new) C.Store }
+/// Moves the top into the next slot.
+#[tactic(auto, using(crate::proofs::Performing::store_performs))]
+fn store(current: &mut TrackedStack) -> Result<(), Refusal>
+    ensures loans { SameLoans current.old current.new }
+    ensures held { (c : ℕ) → Performs (holding c current.old) (code result) (holding c current.new) C.Store }
 {
-    let n = p.numbers;
-    moved(tracked::spill_top(raw, n, ops, spill), p.complete)
+    current.try_spill_top()?;
+    Ok(())
 }
 
-// Loads the slot at a place in the spill list. A slot of the list has a number.
-fn load(raw: &mut [u32; 1024], p: Progress, ops: &mut [u32], spill: &[u32], i: usize) -> Performed
-    ensures { Performs (holding raw.old p ops.old spill.now) result.code (holding raw.new result.progress ops.new spill.now) (C.Load i) }
+/// Puts what the slot at a place in the spill list holds on top.
+#[tactic(auto, using(crate::proofs::Performing::load_performs, crate::proofs::Performing::load_nothing))]
+fn load(current: &mut TrackedStack, i: usize) -> Result<(), Refusal>
+    ensures loans { SameLoans current.old current.new }
+    ensures held { (c : ℕ) → Performs (holding c current.old) (code result) (holding c current.new) (C.Load i) }
 {
-    let n = p.numbers;
-    let slot = tracked::alloc_id(n.first, i);
-    match slot {
-        Word::Is(id) => moved(tracked::load(raw, n, ops, spill, id), p.complete),
-        Word::Nothing => Performed {
-            code: 6,
-            progress: p,
-        },
-    }
+    let id = tracked::alloc_id(current.first, i).ok_or(Refusal::Missing)?;
+    current.try_load(id)?;
+    Ok(())
 }
 
-// Does what was chosen.
-pub(crate) fn perform(
-    raw: &mut [u32; 1024],
-    p: Progress,
-    ops: &mut [u32],
-    spill: &mut [u32],
-    choice: Choice,
-) -> Performed
-    ensures { Performs (holding raw.old p ops.old spill.old) result.code (holding raw.new result.progress ops.new spill.new) choice }
+/// Does what was chosen.
+pub(crate) fn perform(current: &mut TrackedStack, choice: Choice) -> Result<(), Refusal>
+    ensures loans { SameLoans current.old current.new }
+    ensures held { (c : ℕ) → Performs (holding c current.old) (code result) (holding c current.new) choice }
 {
     match choice {
-        Choice::Pass => Performed {
-            code: 0,
-            progress: p,
-        },
-        Choice::Pop => pop(raw, p, ops),
-        Choice::Swap(k) => swap(raw, p, ops, k),
-        Choice::SwapPop(k) => swap_pop(raw, p, ops, k),
-        Choice::Swaps(q, k) => swaps(raw, p, ops, q, k),
-        Choice::Store => store(raw, p, ops, spill),
-        Choice::Load(i) => load(raw, p, ops, spill, i),
-        Choice::Dup(k) => dup(raw, p, ops, k),
-        Choice::Refuse(code) => Performed { code, progress: p },
+        Choice::Pop => pop(current),
+        Choice::Swap(depth) => swap(current, depth),
+        Choice::SwapPop(depth) => swap_pop(current, depth),
+        Choice::Swaps(from, to) => swaps(current, from, to),
+        Choice::Store => store(current),
+        Choice::Load(i) => load(current, i),
+        Choice::Dup(depth) => dup(current, depth),
     }
 }

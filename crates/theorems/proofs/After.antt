@@ -1,11 +1,11 @@
 -- The checker looks at what a shuffle left: the slots that were filled before it are still there, and the room for operations is no matter to it.
-use Prim.Native.Nat.{ℕ, zero, suc, ◌*◌, ◌/◌, ◌≤◌, ◌<◌}
+use Prim.Native.Nat.{ℕ, zero, suc, ◌*◌, ◌≤◌}
 use native.Mathlib.Omega.{arith}
 use mathlib.Core.Path.{◌≡◌, refl, sym, ap, ◌∙◌, subst}
-use mathlib.Core.Option.{Option, none, some}
+use Rattle.std.proofs.Common.{Option, None as none, Some as some}
 use mathlib.Core.List.{List, [], ◌∷◌, ◌++◌, append-nil, append_assoc}
 use lib.ListN.{length, take, drop, length-append, length-drop}
-use lib.Seq.{take_at, drop-append_seam, take_all, length-take-le}
+use lib.Seq.{take_at, drop-append_seam, length-take-le}
 use Rattle.scope.specs.declared.Op.{Op}
 use Rattle.scope.specs.declared.Op.TheVariants.{Swap, Dup, Pop, Store, Load}
 use Rattle.scope.specs.Words.{if_zero}
@@ -183,12 +183,6 @@ confirms-success e q = go (code_of (job_lent e) (start_lent e)) refl
     go (suc r) z = absurd (omega (arith, sym (refused (job_lent e) (start_lent e) r z) ∙ q))
 
 -- ---- as the code has them
-
-pub all-records : (l : List ℕ) (n : ℕ) → length l / 2 < n → l ≡ take (2 * n) l
-all-records l n h = sym (take_all (2 * n) l (omega arith))
-
-pub some-records : (l : List ℕ) (n : ℕ) → n ≤ length l / 2 → length (take (2 * n) l) ≡ 2 * n
-some-records l n h = length-take-le (2 * n) l (omega arith)
 
 -- The verdict on what was written is the one that is due; the checker leaves the spill words as the shuffle left them.
 pub confirms : (start spill target words : List ℕ) (filled first : ℕ) (config : ScheduleConfig) (r : Answer) (spill' words' part : List ℕ) (v : Verdict') (spill'' : List ℕ)

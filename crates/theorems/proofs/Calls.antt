@@ -1,44 +1,30 @@
 -- The promise of every public call determines its outcome: what is seen of two outcomes that keep it is equal, and what is seen leaves nothing out.
 --
--- Most calls promise one equation, `seen r ≡ due`; then `determined` says it, and where `seen` is a view of an enum the view loses nothing. The
--- others promise a relation of their crate's Promises; for each of these it is shown here. docs/PROMISES.md has the table, call by call.
-use Prim.Native.Nat.{ℕ}
+-- Most calls promise one equation of what they answer; then `determined` says it. Where the equation is of a code, the code tells the answer,
+-- which is shown here first. The others promise several clauses, or a relation of their crate's Promises; for each of these forms it is shown
+-- here. docs/PROMISES.md has the table, call by call.
+use Prim.Native.Nat.{ℕ, zero, suc}
 use mathlib.Core.Path.{◌≡◌, refl, sym, ap, ◌∙◌}
-use mathlib.Core.Option.{Option, none, some}
 use mathlib.Core.List.{List, []}
 use lib.ListN.{length}
+use Rattle.std.proofs.Common.{Option, None as none, Some as some, Result, Ok, Err, IfOk, is_ok, true≢false, if◌then◌else◌}
+use lib.Dec.{eqb}
+use Rattle.scope.specs.Codes.{number_of, code}
 use Rattle.scope.specs.declared.Op.{Op}
+use Rattle.scope.specs.declared.Refusal.{Refusal}
+use Rattle.scope.specs.declared.Refusal.TheVariants as R
 use Rattle.scope.specs.declared.Step.{Step}
 use Rattle.scope.specs.declared.Step.TheVariants.{Wrote, Refused}
-use Rattle.scope.specs.declared.Word.{Word}
-use Rattle.scope.specs.declared.Word.TheVariants as W
-use Rattle.scope.specs.declared.Depth.{Depth}
-use Rattle.scope.specs.declared.Depth.TheVariants as D
-use Rattle.scope.specs.declared.Found.{Found}
-use Rattle.scope.specs.declared.Found.TheVariants as F
-use Rattle.scope.specs.Words.{if_zero}
-use Rattle.scope.specs.Rules.{Job, State, Plan, Asked, yes, no, outside}
-use Rattle.scope.specs.Stack.{word_of, depth_of, found_of, Left, Popped}
-use Rattle.scope.specs.Tracked.{step_code, step_op, values, Stepped, Spilled, Made, Cloned}
-use Rattle.scope.proofs.Once.{determined-by}
+use Rattle.scope.specs.Rules.{Job, State, Plan}
+use Rattle.scope.specs.Stack.{Left, Popped}
+use Rattle.scope.specs.Tracked.{step, step_code, step_op, Stepped}
 use Rattle.stack.specs.declared.EvmStack.{EvmStack}
-use Rattle.stack.specs.Promises.{stack_in, blank, laid, Fresh, Leaves, Takes}
-use Rattle.tracked.specs.declared.Numbers.{Numbers}
-use Rattle.tracked.specs.Promises.{Steps, Spills}
+use Rattle.stack.specs.Promises.{stack_in, laid, Fresh}
+use Rattle.tracked.specs.declared.TrackedStack.{TrackedStack}
+use Rattle.tracked.specs.Promises.{tracked_of, Moves}
 use Rattle.tracked_state.specs.declared.TrackedState.{TrackedState}
-use Rattle.tracked_state.specs.Promises.{Makes, Clones}
-use Rattle.printing.specs.declared.Printed.{Printed}
-use Rattle.printing.specs.declared.Printed.TheVariants as P
-use Rattle.printing.specs.Promises.{wrote_of}
-use Rattle.answer.specs.declared.Said.{Said}
-use Rattle.answer.specs.declared.Said.TheVariants as S
-use Rattle.answer.specs.Promises.{said_of}
-use Rattle.questions.specs.declared.Answer.{Answer as Pushed}
-use Rattle.questions.specs.declared.Answer.TheVariants as Q
-use Rattle.questions.specs.Promises.{asked_of}
-use Rattle.rules.specs.declared.Choice.{Choice}
-use Rattle.rules.specs.Promises.{plan_of, Chosen}
-use Rattle.theorems.specs.Views.{left_by, taken_by, stepped_by, spilled_by, made_by, cloned_by}
+use Rattle.tracked_state.specs.Promises.{tracked_of as state_of, array_of, StepsTo}
+use Rattle.rules.specs.Promises.{Answer as Chose, planned, Chosen}
 
 -- ---- The views of an enum: two answers that look the same are the same, since the answer can be told from its view
 
@@ -46,138 +32,172 @@ module _ {Answer Seen : Type 0} (view : Answer → Seen) (told : Seen → Answer
   pub loses-nothing : (a b : Answer) → view a ≡ view b → a ≡ b
   loses-nothing a b e = sym (tells a) ∙ ap told e ∙ tells b
 
-pub word_same : (a b : Word) → word_of a ≡ word_of b → a ≡ b
-word_same = loses-nothing word_of told tells
+-- the refusal with a code; one of them where a number is no code
+abbrev refusal_of : ℕ → Refusal
+refusal_of n =
+    if eqb n 1 then R.Limit
+    else if eqb n 2 then R.Start
+    else if eqb n 3 then R.Target
+    else if eqb n 4 then R.Filled
+    else if eqb n 5 then R.Slots
+    else if eqb n 6 then R.Missing
+    else if eqb n 7 then R.Full
+    else if eqb n 8 then R.Stuck
+    else if eqb n 9 then R.Ticks
+    else if eqb n 10 then R.Spill
+    else if eqb n 11 then R.Ops
+    else if eqb n 12 then R.Inside
+    else if eqb n 13 then R.Job
+    else if eqb n 20 then R.Empty
+    else if eqb n 21 then R.Outside
+    else if eqb n 22 then R.Unfilled
+    else R.SwapOfZero
+
+refusal-told : (r : Refusal) → refusal_of (number_of r) ≡ r
+refusal-told R.Limit = refl
+refusal-told R.Start = refl
+refusal-told R.Target = refl
+refusal-told R.Filled = refl
+refusal-told R.Slots = refl
+refusal-told R.Missing = refl
+refusal-told R.Full = refl
+refusal-told R.Stuck = refl
+refusal-told R.Ticks = refl
+refusal-told R.Spill = refl
+refusal-told R.Ops = refl
+refusal-told R.Inside = refl
+refusal-told R.Job = refl
+refusal-told R.Empty = refl
+refusal-told R.Outside = refl
+refusal-told R.Unfilled = refl
+refusal-told R.SwapOfZero = refl
+
+-- a refusal, by its code
+pub refusal-same : (a b : Refusal) → number_of a ≡ number_of b → a ≡ b
+refusal-same = loses-nothing number_of refusal_of refusal-told
+
+-- an answer that is nothing or a refusal, by its code
+pub code-same : (a b : Result Unit Refusal) → code a ≡ code b → a ≡ b
+code-same = loses-nothing code told tells
   where
-    told : Option ℕ → Word
-    told none = W.Nothing
-    told (some x) = W.Is x
+    told : ℕ → Result Unit Refusal
+    told zero = Ok tt
+    told (suc n) = Err (refusal_of (suc n))
 
-    tells : (r : Word) → told (word_of r) ≡ r
-    tells (W.Is x) = refl
-    tells W.Nothing = refl
-
-pub depth_same : (a b : Depth) → depth_of a ≡ depth_of b → a ≡ b
-depth_same = loses-nothing depth_of told tells
-  where
-    told : Option ℕ → Depth
-    told none = D.Nothing
-    told (some x) = D.Is x
-
-    tells : (r : Depth) → told (depth_of r) ≡ r
-    tells (D.Is x) = refl
-    tells D.Nothing = refl
-
-pub found-same : (a b : Found) → found_of a ≡ found_of b → a ≡ b
-found-same = loses-nothing found_of told tells
-  where
-    told : Option ℕ → Found
-    told none = F.Nothing
-    told (some x) = F.At x
-
-    tells : (r : Found) → told (found_of r) ≡ r
-    tells (F.At x) = refl
-    tells F.Nothing = refl
-
-pub printed-same : (a b : Printed) → wrote_of a ≡ wrote_of b → a ≡ b
-printed-same = loses-nothing wrote_of told tells
-  where
-    told : Option ℕ → Printed
-    told none = P.NoRoom
-    told (some x) = P.Wrote x
-
-    tells : (r : Printed) → told (wrote_of r) ≡ r
-    tells (P.Wrote x) = refl
-    tells P.NoRoom = refl
-
-pub said_same : (a b : Said) → said_of a ≡ said_of b → a ≡ b
-said_same = loses-nothing said_of told tells
-  where
-    told : Option Op → Said
-    told none = S.Nothing
-    told (some o) = S.Is o
-
-    tells : (r : Said) → told (said_of r) ≡ r
-    tells (S.Is o) = refl
-    tells S.Nothing = refl
-
-pub asked-same : (a b : Pushed) → asked_of a ≡ asked_of b → a ≡ b
-asked-same = loses-nothing asked_of told tells
-  where
-    told : Asked → Pushed
-    told yes = Q.Yes
-    told no = Q.No
-    told outside = Q.Outside
-
-    tells : (r : Pushed) → told (asked_of r) ≡ r
-    tells Q.Yes = refl
-    tells Q.No = refl
-    tells Q.Outside = refl
+    tells : (r : Result Unit Refusal) → told (code r) ≡ r
+    tells (Ok tt) = refl
+    tells (Err R.Limit) = refl
+    tells (Err R.Start) = refl
+    tells (Err R.Target) = refl
+    tells (Err R.Filled) = refl
+    tells (Err R.Slots) = refl
+    tells (Err R.Missing) = refl
+    tells (Err R.Full) = refl
+    tells (Err R.Stuck) = refl
+    tells (Err R.Ticks) = refl
+    tells (Err R.Spill) = refl
+    tells (Err R.Ops) = refl
+    tells (Err R.Inside) = refl
+    tells (Err R.Job) = refl
+    tells (Err R.Empty) = refl
+    tells (Err R.Outside) = refl
+    tells (Err R.Unfilled) = refl
+    tells (Err R.SwapOfZero) = refl
 
 -- a step, by its code and its operation together
 pub step_same : (a b : Step) → ◌≡◌ {A = ℕ × Option Op} (step_code a, step_op a) (step_code b, step_op b) → a ≡ b
 step_same = loses-nothing (λ (r : Step). (step_code r, step_op r)) told tells
   where
     told : ℕ × Option Op → Step
-    told (r, none) = Refused r
+    told (r, none) = Refused (refusal_of r)
     told (r, some o) = Wrote o
 
     tells : (r : Step) → told (step_code r, step_op r) ≡ r
     tells (Wrote o) = refl
-    tells (Refused r) = refl
+    tells (Refused r) = ap Refused (refusal-told r)
 
--- ---- The relations. What is seen is scope's answer, in which stacks stand by height and values, and then every word of the array.
+-- what a step's answer is made of, by the step
+pub tried-same : (a b : Result Op Refusal) → step a ≡ step b → a ≡ b
+tried-same = loses-nothing step told tells
+  where
+    told : Step → Result Op Refusal
+    told (Wrote o) = Ok o
+    told (Refused r) = Err r
+
+    tells : (r : Result Op Refusal) → told (step r) ≡ r
+    tells (Ok o) = refl
+    tells (Err r) = refl
+
+-- ---- The forms of a promise. What is seen is scope's answer, in which stacks stand by height and values, and then every word of the array.
 
 both : {A B : Type 0} {x x' : A} {y y' : B} → x ≡ x' → y ≡ y' → ◌≡◌ {A = A × B} (x, y) (x', y')
 both p q = rw (p, q)
 
--- a stack's call that may change it: code, length field, array
-pub leaves-once : (lent : Left × List ℕ) (a b : ℕ × ℕ × List ℕ)
-    → Leaves lent.0 a.0 a.1 lent.1 a.2 → Leaves lent.0 b.0 b.1 lent.1 b.2 → left_by a ≡ left_by b
-leaves-once =
-    determined-by (λ lent out. Leaves lent.0 out.0 out.1 lent.1 out.2) left_by (λ lent. (lent.0, laid lent.0.stack.values lent.1))
-    (λ lent out k. both k.answer k.words)
+-- a stack's call that may change it, by its clauses: code, stack, words
+pub leaves-once : (left : Left) (before : List ℕ) (a b : Result Unit Refusal) (s t : EvmStack)
+    → code a ≡ left.code → stack_in s ≡ left.stack → s.stack_raw ≡ laid left.stack.values before
+    → code b ≡ left.code → stack_in t ≡ left.stack → t.stack_raw ≡ laid left.stack.values before
+    → (a ≡ b) × (stack_in s ≡ stack_in t) × (s.stack_raw ≡ t.stack_raw)
+leaves-once left before a b s t c k w d l x = (code-same a b (c ∙ sym d), k ∙ sym l, w ∙ sym x)
 
--- one that takes the top off: value, length field, array
-pub takes-once : (lent : Popped × List ℕ) (a b : Word × ℕ × List ℕ)
-    → Takes lent.0 a.0 a.1 lent.1 a.2 → Takes lent.0 b.0 b.1 lent.1 b.2 → taken_by a ≡ taken_by b
-takes-once =
-    determined-by (λ lent out. Takes lent.0 out.0 out.1 lent.1 out.2) taken_by (λ lent. (lent.0, lent.1))
-    (λ lent out k. both k.answer k.words)
+-- one that takes the top off: value, stack, words
+pub takes-once : (popped : Popped) (before : List ℕ) (a b : Option ℕ) (s t : EvmStack)
+    → a ≡ popped.value → stack_in s ≡ popped.stack → s.stack_raw ≡ before
+    → b ≡ popped.value → stack_in t ≡ popped.stack → t.stack_raw ≡ before
+    → (a ≡ b) × (stack_in s ≡ stack_in t) × (s.stack_raw ≡ t.stack_raw)
+takes-once popped before a b s t v k w u l x = (v ∙ sym u, k ∙ sym l, w ∙ sym x)
+
+-- a step of a tracked stack: answer, numbers, operation words, array
+pub steps-once : (to : Stepped) (a b : Step) (old s t : TrackedStack) → Moves to a old s → Moves to b old t
+    → (a ≡ b) × (tracked_of s ≡ tracked_of t) × (s.ops.now ≡ t.ops.now) × (s.stack.now.stack_raw ≡ t.stack.now.stack_raw)
+steps-once to a b old s t p q =
+    (step_same a b (both (p.code ∙ sym q.code) (p.op ∙ sym q.op)), p.state ∙ sym q.state, p.words ∙ sym q.words, p.array ∙ sym q.array)
+
+-- the same of a state, which has no loans
+pub states-once : (to : Stepped) (a b : Step) (before s t : TrackedState) (ops words : List ℕ) → StepsTo to a before s ops → StepsTo to b before t words
+    → (a ≡ b) × (state_of s ≡ state_of t) × (ops ≡ words) × (array_of s ≡ array_of t)
+states-once to a b before s t ops words p q =
+    (step_same a b (both (p.code ∙ sym q.code) (p.op ∙ sym q.op)), p.state ∙ sym q.state, p.words ∙ sym q.words, p.array ∙ sym q.array)
+
+-- whether something is made, or why not
+abbrev outcome : {A : Type 0} → Result A Refusal → Result Unit Refusal
+outcome (Ok s) = Ok tt
+outcome (Err r) = Err r
+
+outcome-code : {A : Type 0} (r : Result A Refusal) → code (outcome r) ≡ code r
+outcome-code (Ok s) = refl
+outcome-code (Err r) = refl
+
+-- something that is made, by its code and by two views of it
+module _ {A F G : Type 0} (f : A → F) (g : A → G) where
+  abbrev pub made_by : Result A Refusal → Result (F × G) Refusal
+  made_by (Ok s) = Ok (f s, g s)
+  made_by (Err r) = Err r
+
+  pub makes-once : (n : ℕ) (d : F) (e : G) (a b : Result A Refusal)
+      → code a ≡ n → IfOk a (λ s. f s ≡ d) → IfOk a (λ s. g s ≡ e)
+      → code b ≡ n → IfOk b (λ s. f s ≡ d) → IfOk b (λ s. g s ≡ e)
+      → made_by a ≡ made_by b
+  makes-once n d e a b c p q c' p' q' = go a b same p q p' q'
+    where
+      same : outcome a ≡ outcome b
+      same = code-same (outcome a) (outcome b) (outcome-code a ∙ c ∙ sym c' ∙ sym (outcome-code b))
+
+      go : (a b : Result A Refusal) → outcome a ≡ outcome b → IfOk a (λ s. f s ≡ d) → IfOk a (λ s. g s ≡ e) → IfOk b (λ s. f s ≡ d) → IfOk b (λ s. g s ≡ e)
+          → made_by a ≡ made_by b
+      go (Ok s) (Ok t) k p q p' q' = ap (λ x. Ok x) (both (p ∙ sym p') (q ∙ sym q'))
+      go (Ok s) (Err r) k p q p' q' = absurd (true≢false (ap is_ok k))
+      go (Err r) (Ok t) k p q p' q' = absurd (true≢false (sym (ap is_ok k)))
+      go (Err r) (Err t) k p q p' q' = ap (λ x. Err x) (err r t k)
+        where
+          err : (r t : Refusal) → ◌≡◌ {A = Result Unit Refusal} (Err r) (Err t) → r ≡ t
+          err r t k = refusal-same r t (ap code k)
 
 -- a new stack
 pub fresh-once : (a b : EvmStack) → Fresh a → Fresh b → (stack_in a ≡ stack_in b) × (a.stack_raw ≡ b.stack_raw)
 fresh-once a b p q = (p.stack ∙ sym q.stack, p.words ∙ sym q.words)
 
--- a step of a tracked stack: answer, numbers, array, operation words
-pub steps-once : (lent : Stepped × List ℕ) (a b : Step × Numbers × List ℕ × List ℕ)
-    → Steps lent.0 a.0 a.1 lent.1 a.2 a.3 → Steps lent.0 b.0 b.1 lent.1 b.2 b.3 → stepped_by a ≡ stepped_by b
-steps-once =
-    determined-by (λ lent out. Steps lent.0 out.0 out.1 lent.1 out.2 out.3) stepped_by (λ lent. (lent.0, laid (values lent.0.state) lent.1))
-    (λ lent out k. both k.answer k.array)
-
--- the same with the spill words
-pub spills-once : (lent : Spilled × List ℕ) (a b : Step × Numbers × List ℕ × List ℕ × List ℕ)
-    → Spills lent.0 a.0 a.1 lent.1 a.2 a.3 a.4 → Spills lent.0 b.0 b.1 lent.1 b.2 b.3 b.4 → spilled_by a ≡ spilled_by b
-spills-once =
-    determined-by (λ lent out. Spills lent.0 out.0 out.1 lent.1 out.2 out.3 out.4) spilled_by
-    (λ lent. (lent.0, laid (values lent.0.step.state) lent.1))
-    (λ lent out k. both k.answer k.array)
-
--- a tracked state that is made
-pub makes-once : (lent : Made × List ℕ) (a b : ℕ × TrackedState) → Makes lent.0 a.0 a.1 lent.1 → Makes lent.0 b.0 b.1 lent.1 → made_by a ≡ made_by b
-makes-once =
-    determined-by (λ lent out. Makes lent.0 out.0 out.1 lent.1) made_by (λ lent. (lent.0, if_zero lent.0.code lent.1 blank))
-    (λ lent out k. both k.answer (k.words ∙ ap (λ (r : Made). if_zero r.code lent.1 blank) k.answer))
-
--- one that is copied, with the spill words that it gets
-pub clones-once : (lent : Cloned × List ℕ) (a b : ℕ × TrackedState × List ℕ)
-    → Clones lent.0 a.0 a.1 lent.1 a.2 → Clones lent.0 b.0 b.1 lent.1 b.2 → cloned_by a ≡ cloned_by b
-clones-once =
-    determined-by (λ lent out. Clones lent.0 out.0 out.1 lent.1 out.2) cloned_by (λ lent. (lent.0, if_zero lent.0.made.code lent.1 blank))
-    (λ lent out k. both k.answer (k.words ∙ ap (λ (r : Cloned). if_zero r.made.code lent.1 blank) k.answer))
-
 -- `shrink_choice` and `grow_choice`: of the choice, the plan that it stands for. Which of two names a plan has is left open (docs/DECISIONS.md).
-pub chosen-once : (h : ℕ) (C T L : List ℕ) (c S D : ℕ) (plan : Job → State → Plan) (a b : Choice)
-    → Chosen h C T L c S D plan a → Chosen h C T L c S D plan b → (first : ℕ) → plan_of first (length L) a ≡ plan_of first (length L) b
+pub chosen-once : (h : ℕ) (C T L : List ℕ) (c S D : ℕ) (plan : Job → State → Plan) (a b : Chose)
+    → Chosen h C T L c S D plan a → Chosen h C T L c S D plan b → (first : ℕ) → planned first (length L) a ≡ planned first (length L) b
 chosen-once h C T L c S D plan a b p q first = p.is first 0 0 [] ∙ sym (q.is first 0 0 [])

@@ -11,26 +11,23 @@ use operations::ScheduleConfig;
 use replay::Verdict;
 use shuffler::Answer;
 
-// What a shuffle answered, and the checker's verdict on it.
+/// What a shuffle answered, and the checker's verdict on it.
 #[derive(Clone, Copy)]
 pub struct Both {
     pub answer: Answer,
     pub verdict: Verdict,
 }
 
-// The words of the first so many operations.
-fn records<'a>(ops: &'a [u32], count: usize) -> &'a [u32]
+/// The words of the first so many operations.
+fn records(ops: &[u32], count: usize) -> &[u32]
     ensures { result.now ≡ take (2 * count) ops.now }
 {
-    if ops.len() / 2 < count {
-        return ops;
-    }
-    &ops[..2 * count]
+    &ops[..count.saturating_mul(2).min(ops.len())]
 }
 
-// The shuffle, and then the checker on the operations that it wrote, from the same start with the same slots and limits. The answer and the
-// words are the shuffle's, none is changed by the checker; the verdict finds no fault in the list, and accepts it where the shuffle
-// answered 0.
+/// The shuffle, and then the checker on the operations that it wrote, from the same start with the same slots and limits. The answer and
+/// the words are the shuffle's, none is changed by the checker; the verdict finds no fault in the list, and accepts it where the shuffle
+/// had no refusal.
 pub fn shuffle_and_check(
     start: &[u32],
     spill: &mut [u32],
@@ -40,8 +37,10 @@ pub fn shuffle_and_check(
     config: ScheduleConfig,
     ops: &mut [u32],
 ) -> Both
-    ensures ops_after { seen_in result.answer spill.new ops.new ≡ shuffle_due (lent_plain start.now spill.old filled first target.now config ops.old) }
-    ensures spill_after { seen result.verdict spill.new ≡ confirm_due (lent_plain start.now spill.old filled first target.now config ops.old) }
+    ensures ops_after { seen_in result.answer spill.new ops.new
+        ≡ shuffle_due (lent_plain start.now spill.old filled first target.now config ops.old) }
+    ensures spill_after { seen result.verdict spill.new
+        ≡ confirm_due (lent_plain start.now spill.old filled first target.now config ops.old) }
 {
     let answer = shuffler::shuffle(start, spill, filled, first, target, config, ops);
     let verdict = replay::check(
@@ -50,8 +49,7 @@ pub fn shuffle_and_check(
         filled,
         first,
         target,
-        config.max_swap_depth,
-        config.max_dup_depth,
+        config,
         records(ops, answer.ops),
     );
     Both { answer, verdict }

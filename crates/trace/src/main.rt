@@ -9,14 +9,6 @@ use std::rt::Files;
 use std::str;
 use tracing::{room, trace_job, trace_list};
 
-// The lines that were made.
-fn write(out: &mut impl Write, lines: &[u8], len: usize) -> io::Result<()> {
-    if len <= lines.len() {
-        out.write_all(&lines[..len])?;
-    }
-    Ok(())
-}
-
 // The list in a file, on a job. One byte more than a list may have is read, so that a longer one shows.
 fn list<R: Files + Eprint>(
     out: &mut impl Write,
@@ -31,14 +23,14 @@ fn list<R: Files + Eprint>(
     let mut lines = room();
     let n = read_full(&mut file, &mut text)?;
     let len = trace_list(bytes, &text[..n], &mut lines);
-    write(out, &lines, len)
+    out.write_all(&lines[..len.min(lines.len())])
 }
 
 // The run of a job.
 fn run(out: &mut impl Write, bytes: &[u8]) -> io::Result<()> {
     let mut lines = room();
     let len = trace_job(bytes, &mut lines);
-    write(out, &lines, len)
+    out.write_all(&lines[..len.min(lines.len())])
 }
 
 // One byte more than a job may have is read, as the driver does. A name that no path can have is taken for an empty one.

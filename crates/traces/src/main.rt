@@ -23,23 +23,14 @@ fn read<R: Files + Eprint>(
     read_full(&mut file, bytes)
 }
 
-// The lines that were made.
-fn write(out: &mut impl Write, lines: &[u8], len: usize) -> io::Result<()> {
-    if len <= lines.len() {
-        out.write_all(&lines[..len])?;
-    }
-    Ok(())
-}
-
-// The first and the last four hundred bytes of the lines.
-fn write_ends(out: &mut impl Write, lines: &[u8], len: usize) -> io::Result<()> {
-    if len <= lines.len() {
-        if 800 < len {
-            let from = len - 400;
-            write(out, lines, 400)?;
-            out.write_all(b"\n..\n")?;
-            out.write_all(&lines[from..len])?;
-        }
+// The first and the last four hundred bytes of the lines, where there are more than eight hundred.
+fn write_ends(out: &mut impl Write, lines: &[u8]) -> io::Result<()> {
+    if lines.len() > 800 {
+        let (first, _) = lines.split_at(400);
+        let (_, last) = lines.split_at(lines.len() - 400);
+        out.write_all(first)?;
+        out.write_all(b"\n..\n")?;
+        out.write_all(last)?;
     }
     Ok(())
 }
@@ -55,7 +46,7 @@ fn job<R: Files + Eprint>(
     writeln!(out, "{path}")?;
     let n = read(inputs, path, &mut bytes)?;
     let len = trace_job(&bytes[..n], &mut lines);
-    write(out, &lines, len)
+    out.write_all(&lines[..len.min(lines.len())])
 }
 
 // The same of a long one, cut.
@@ -69,7 +60,7 @@ fn long_job<R: Files + Eprint>(
     writeln!(out, "{path}")?;
     let n = read(inputs, path, &mut bytes)?;
     let len = trace_job(&bytes[..n], &mut lines);
-    write_ends(out, &lines, len)
+    write_ends(out, &lines[..len.min(lines.len())])
 }
 
 // The trace of a list on a job.
@@ -86,7 +77,7 @@ fn list<R: Files + Eprint>(
     let n = read(inputs, on, &mut bytes)?;
     let k = read(inputs, path, &mut listed)?;
     let len = trace_list(&bytes[..n], &listed[..k], &mut lines);
-    write(out, &lines, len)
+    out.write_all(&lines[..len.min(lines.len())])
 }
 
 // The trace of operation words, for those that no text gives.
@@ -102,76 +93,80 @@ fn words<R: Files + Eprint>(
     writeln!(out, "{name} on {on}")?;
     let n = read(inputs, on, &mut bytes)?;
     let len = trace_words(&bytes[..n], list, &mut lines);
-    write(out, &lines, len)
+    out.write_all(&lines[..len.min(lines.len())])
 }
 
 // The runs worked by hand, A to L, and N both ways, which shows a stack that is cut.
 fn table<R: Files + Eprint>(out: &mut impl Write, inputs: &mut Inputs<'_, R>) -> io::Result<()> {
-    job(out, inputs, "a.job")?;
-    job(out, inputs, "b.job")?;
-    job(out, inputs, "c.job")?;
-    job(out, inputs, "d.job")?;
-    job(out, inputs, "e.job")?;
-    job(out, inputs, "f.job")?;
-    job(out, inputs, "g.job")?;
-    job(out, inputs, "h.job")?;
-    job(out, inputs, "i.job")?;
-    job(out, inputs, "j.job")?;
-    job(out, inputs, "k.job")?;
-    job(out, inputs, "l.job")?;
-    job(out, inputs, "n.job")?;
-    job(out, inputs, "n2.job")
+    for path in [
+        "a.job", "b.job", "c.job", "d.job", "e.job", "f.job", "g.job", "h.job", "i.job", "j.job",
+        "k.job", "l.job", "n.job", "n2.job",
+    ] {
+        job(out, inputs, path)?;
+    }
+    Ok(())
 }
 
 // Each other code that a job can get from the driver.
 fn codes<R: Files + Eprint>(out: &mut impl Write, inputs: &mut Inputs<'_, R>) -> io::Result<()> {
-    job(out, inputs, "code1.job")?;
-    job(out, inputs, "code2.job")?;
-    job(out, inputs, "code3.job")?;
-    job(out, inputs, "code4.job")?;
-    job(out, inputs, "code5.job")?;
-    job(out, inputs, "code10.job")?;
+    for path in [
+        "code1.job",
+        "code2.job",
+        "code3.job",
+        "code4.job",
+        "code5.job",
+        "code10.job",
+    ] {
+        job(out, inputs, path)?;
+    }
     long_job(out, inputs, "code11.job")?;
     job(out, inputs, "empty.job")
 }
 
 // Each verdict on a list from elsewhere, the driver's own output first.
 fn verdicts<R: Files + Eprint>(out: &mut impl Write, inputs: &mut Inputs<'_, R>) -> io::Result<()> {
-    list(out, inputs, "l.list", "l.job")?;
-    list(out, inputs, "restored.list", "v.job")?;
-    list(out, inputs, "32.list", "v.job")?;
-    list(out, inputs, "32zero.list", "v.job")?;
-    list(out, inputs, "33.list", "v.job")?;
-    list(out, inputs, "34.list", "v.job")?;
-    list(out, inputs, "35.list", "v.job")?;
-    list(out, inputs, "36.list", "n.job")?;
-    list(out, inputs, "37.list", "v.job")?;
-    list(out, inputs, "38.list", "v.job")?;
-    list(out, inputs, "39.list", "full.job")?;
-    list(out, inputs, "40.list", "v.job")?;
-    list(out, inputs, "41.list", "v.job")?;
-    list(out, inputs, "41.list", "code1.job")?;
-    list(out, inputs, "41.list", "code2.job")?;
-    list(out, inputs, "41.list", "code3.job")?;
-    list(out, inputs, "41.list", "code4.job")?;
-    list(out, inputs, "41.list", "code5.job")?;
-    list(out, inputs, "41.list", "empty.job")
+    for (path, on) in [
+        ("l.list", "l.job"),
+        ("restored.list", "v.job"),
+        ("32.list", "v.job"),
+        ("32zero.list", "v.job"),
+        ("33.list", "v.job"),
+        ("34.list", "v.job"),
+        ("35.list", "v.job"),
+        ("36.list", "n.job"),
+        ("37.list", "v.job"),
+        ("38.list", "v.job"),
+        ("39.list", "full.job"),
+        ("40.list", "v.job"),
+        ("41.list", "v.job"),
+        ("41.list", "code1.job"),
+        ("41.list", "code2.job"),
+        ("41.list", "code3.job"),
+        ("41.list", "code4.job"),
+        ("41.list", "code5.job"),
+        ("41.list", "empty.job"),
+    ] {
+        list(out, inputs, path, on)?;
+    }
+    Ok(())
 }
 
 // Words that are no list, and lists that cannot be read.
 fn no_lists<R: Files + Eprint>(out: &mut impl Write, inputs: &mut Inputs<'_, R>) -> io::Result<()> {
-    let odd = [3u32, 0, 3];
-    words(out, inputs, "3 words", "v.job", &odd)?;
-    let unknown = [3u32, 0, 6, 258];
-    words(out, inputs, "an unknown kind", "v.job", &unknown)?;
-    let argument = [3u32, 7];
-    words(out, inputs, "a Pop with an argument", "v.job", &argument)?;
-    list(out, inputs, "spelling.list", "v.job")?;
-    list(out, inputs, "zero.list", "v.job")?;
-    list(out, inputs, "large.list", "v.job")?;
-    list(out, inputs, "exchange.list", "v.job")?;
-    list(out, inputs, "answer.list", "v.job")?;
-    list(out, inputs, "many.list", "v.job")
+    words(out, inputs, "3 words", "v.job", &[3, 0, 3])?;
+    words(out, inputs, "an unknown kind", "v.job", &[3, 0, 6, 258])?;
+    words(out, inputs, "a Pop with an argument", "v.job", &[3, 7])?;
+    for path in [
+        "spelling.list",
+        "zero.list",
+        "large.list",
+        "exchange.list",
+        "answer.list",
+        "many.list",
+    ] {
+        list(out, inputs, path, "v.job")?;
+    }
+    Ok(())
 }
 
 fn main(rt: HostRuntime) -> io::Result<ExitCode> {

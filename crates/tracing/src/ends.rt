@@ -2,59 +2,57 @@
 ghost use Rattle.std.specs.Prelude.{◌≡◌, length};
 ghost use Rattle.lines.specs.Promises.{Wrote};
 
-use super::words::line_len;
+use super::Given;
 use answer::{Answer, write_answer};
-use job::JobRead;
-use lines::{put, put_label, put_list, put_slots};
+use job::Job;
+use lines::{put_list, put_slots};
 use meanings::put_meaning;
-use replay::Verdict;
+use printing::Text;
+use replay::{Fault, Verdict};
 
 // The two limits and the first slot's number.
-fn put_limits(out: &mut [u8], at: usize, read: JobRead) -> usize
-    ensures { Wrote out.old at out.new result }
+fn put_limits(text: &mut Text, job: Job)
+    ensures wrote { Wrote text.old.out.now text.old.len text.new.out.now text.new.len }
+    ensures same { text.new.out.ghost_name ≡ text.old.out.ghost_name }
 {
-    let a = put_label(out, at, b"limits   swap ", read.max_swap as u64);
-    let b = put_label(out, a, b", dup ", read.max_dup as u64);
-    let c = put_label(out, b, b", first slot ", read.first as u64);
-    put(out, c, b"\n")
+    text.label(b"limits   swap ", job.config.max_swap_depth.into());
+    text.label(b", dup ", job.config.max_dup_depth.into());
+    text.label(b", first slot ", job.first.into());
+    text.put(b"\n");
 }
 
 // The slots that are filled.
-fn put_spilled(out: &mut [u8], at: usize, first: u32, slots: &[u32]) -> usize
-    ensures { Wrote out.old at out.new result }
+fn put_spilled(text: &mut Text, first: u32, slots: &[u32])
+    ensures wrote { Wrote text.old.out.now text.old.len text.new.out.now text.new.len }
+    ensures same { text.new.out.ghost_name ≡ text.old.out.ghost_name }
 {
-    let from = put(out, at, b"spilled ");
-    let end = put_slots(out, from, first, slots);
-    put(out, end, b"\n")
+    text.put(b"spilled ");
+    put_slots(text, first, slots);
+    text.put(b"\n");
 }
 
 // The job in words.
-pub(crate) fn put_job<'a>(
-    out: &mut [u8],
-    read: JobRead,
-    start: &'a [u32],
-    spilled: &'a [u32],
-    target: &'a [u32],
-) -> usize
-    ensures { Wrote out.old 0 out.new result }
+pub(crate) fn put_job(text: &mut Text, given: Given)
+    ensures wrote { Wrote text.old.out.now text.old.len text.new.out.now text.new.len }
+    ensures same { text.new.out.ghost_name ≡ text.old.out.ghost_name }
 {
-    let a = put_limits(out, 0, read);
-    let b = put_list(out, a, b"start   ", start);
-    let c = put_spilled(out, b, read.first, spilled);
-    put_list(out, c, b"target  ", target)
+    put_limits(text, given.job);
+    put_list(text, b"start   ", given.start);
+    put_spilled(text, given.job.first, given.spilled);
+    put_list(text, b"target  ", given.target);
 }
 
-// Where a code refuses: the code, its name and its meaning. Nothing for 0.
-fn put_refusal(out: &mut [u8], at: usize, code: u32) -> usize
-    ensures { Wrote out.old at out.new result }
+// Why a run or a list is refused: the code, its name and its meaning. Nothing where it is not.
+fn put_refusal(text: &mut Text, outcome: Result<(), Fault>)
+    ensures wrote { Wrote text.old.out.now text.old.len text.new.out.now text.new.len }
+    ensures same { text.new.out.ghost_name ≡ text.old.out.ghost_name }
 {
-    if code == 0 {
-        return at;
+    if let Err(fault) = outcome {
+        text.label(b"refused ", fault.code().into());
+        text.put(b" ");
+        put_meaning(text, fault.code());
+        text.put(b"\n");
     }
-    let a = put_label(out, at, b"refused ", code as u64);
-    let b = put(out, a, b" ");
-    let c = put_meaning(out, b, code);
-    put(out, c, b"\n")
 }
 
 // Zeros for the driver's answer.
@@ -65,32 +63,35 @@ fn answer_room() -> [u8; 221344]
 }
 
 // The first line of the driver's answer.
-fn put_answer_line(out: &mut [u8], at: usize, answer: Answer, words: &[u32]) -> usize
-    ensures { Wrote out.old at out.new result }
+fn put_answer_line(text: &mut Text, answer: Answer, words: &[u32])
+    ensures wrote { Wrote text.old.out.now text.old.len text.new.out.now text.new.len }
+    ensures same { text.new.out.ghost_name ≡ text.old.out.ghost_name }
 {
-    let mut text = answer_room();
-    write_answer(&mut text, answer, words);
-    let n = line_len(&text);
-    put(out, at, &text[..n])
+    let mut bytes = answer_room();
+    let _ = write_answer(&mut bytes, answer, words);
+    if let Some(line) = bytes.split_inclusive(|byte| *byte == b'\n').next() {
+        text.put(line);
+    }
 }
 
 // The first line of the driver's answer, and where it refuses, why.
-pub(crate) fn put_answer(out: &mut [u8], at: usize, answer: Answer, words: &[u32]) -> usize
-    ensures { Wrote out.old at out.new result }
+pub(crate) fn put_answer(text: &mut Text, answer: Answer, outcome: Result<(), Fault>, words: &[u32])
+    ensures wrote { Wrote text.old.out.now text.old.len text.new.out.now text.new.len }
+    ensures same { text.new.out.ghost_name ≡ text.old.out.ghost_name }
 {
-    let code = answer.code;
-    let end = put_answer_line(out, at, answer, words);
-    put_refusal(out, end, code)
+    put_answer_line(text, answer, words);
+    put_refusal(text, outcome);
 }
 
 // The checker's verdict, and where it refuses, why.
-pub(crate) fn put_verdict(out: &mut [u8], at: usize, v: Verdict) -> usize
-    ensures { Wrote out.old at out.new result }
+pub(crate) fn put_verdict(text: &mut Text, verdict: Verdict)
+    ensures wrote { Wrote text.old.out.now text.old.len text.new.out.now text.new.len }
+    ensures same { text.new.out.ghost_name ≡ text.old.out.ghost_name }
 {
-    let a = put_label(out, at, b"verdict ", v.code as u64);
-    let b = put_label(out, a, b" index ", v.index as u64);
-    let c = put_label(out, b, b" gas ", v.gas);
-    let d = put_label(out, c, b" slots ", v.filled as u64);
-    let e = put(out, d, b"\n");
-    put_refusal(out, e, v.code)
+    text.label(b"verdict ", verdict.code().into());
+    text.label(b" index ", verdict.index as u64);
+    text.label(b" gas ", verdict.gas);
+    text.label(b" slots ", verdict.filled as u64);
+    text.put(b"\n");
+    put_refusal(text, verdict.outcome);
 }

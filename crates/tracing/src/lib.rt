@@ -6,223 +6,197 @@ ghost use Rattle.std.specs.Prelude.{◌≡◌, length};
 ghost use Rattle.lines.specs.Promises.{Wrote};
 
 use answer::Answer;
-use job::{JobRead, read_job};
-use lines::{put, put_label, put_turn};
-use listing::read_list;
-use operations::ScheduleConfig;
+use driving::{numbers_of, run_job};
+use job::{Job, JobWords, read_job};
+use lines::put_turn;
+use listing::{ListError, Unlisted, read_list};
+use printing::Text;
 use reader::read_at;
-use replay::{Verdict, check};
-use shuffler::shuffle;
-use tracked::underlying_spilled;
+use replay::{Fault, Verdict, check};
+use scope::Refusal;
 use walks::put_walk;
 
 mod ends;
 mod words;
 
-// The operations of a job that codes 1 to 5 let pass; nothing for another.
-fn put_operations<'a>(
-    out: &mut [u8],
-    at: usize,
-    code: u32,
-    read: JobRead,
-    start: &'a [u32],
-    spilled: &'a [u32],
-    target: &'a [u32],
-    ops: &'a [u32],
-) -> usize
-    ensures { Wrote out.old at out.new result }
-{
-    if 1 <= code {
-        if code <= 5 {
-            return at;
+// A job with the parts of the arrays that its lists are.
+#[derive(Clone, Copy)]
+pub(crate) struct Given<'a> {
+    pub(crate) job: Job,
+    pub(crate) start: &'a [u32],
+    pub(crate) spilled: &'a [u32],
+    pub(crate) target: &'a [u32],
+}
+
+impl<'a> Given<'a> {
+    fn new(job: Job, lists: &'a JobWords) -> Given<'a> {
+        Given {
+            job,
+            start: &lists.start[..job.starts.min(4096)],
+            spilled: &lists.spilled[..job.spills.min(4096)],
+            target: &lists.target[..job.targets.min(4096)],
         }
     }
+}
+
+// The operations of a job that codes 1 to 5 let pass; nothing for another.
+fn put_operations(text: &mut Text, outcome: Result<(), Fault>, given: Given, ops: &[u32])
+    ensures wrote { Wrote text.old.out.now text.old.len text.new.out.now text.new.len }
+    ensures same { text.new.out.ghost_name ≡ text.old.out.ghost_name }
+{
+    if let Err(
+        Fault::Job(
+            Refusal::Limit | Refusal::Start | Refusal::Target | Refusal::Filled | Refusal::Slots,
+        ),
+    ) = outcome
+    {
+        return;
+    }
     let mut slots = [0u32; 2048];
-    words::copy(spilled, &mut slots);
+    words::copy(given.spilled, &mut slots);
     put_walk(
-        out,
-        at,
-        start,
+        text,
+        given.start,
         &mut slots,
-        read.spills,
-        read.first,
-        target,
+        given.job.spills,
+        given.job.first,
+        given.target,
         ops,
-    )
+    );
 }
 
 // A run: the job, its operations, the answer. The shuffle is lent what the driver lends, 2,048 slots and room for 4,096 operations.
-fn show_run<'a>(
-    out: &mut [u8],
-    read: JobRead,
-    start: &'a [u32],
-    spilled: &'a [u32],
-    target: &'a [u32],
-) -> usize
-    ensures { Wrote out.old 0 out.new result }
+fn show_run(text: &mut Text, job: Job, lists: &JobWords)
+    ensures wrote { Wrote text.old.out.now text.old.len text.new.out.now text.new.len }
+    ensures same { text.new.out.ghost_name ≡ text.old.out.ghost_name }
 {
-    let mut slots = [0u32; 2048];
+    let mut lent = *lists;
     let mut words = [0u32; 8192];
-    words::copy(spilled, &mut slots);
-    let config = ScheduleConfig {
-        max_swap_depth: read.max_swap,
-        max_dup_depth: read.max_dup,
-        max_exchange_range: 0,
-        exchange_cost: 0,
-    };
-    let a = shuffle(
-        start,
-        &mut slots,
-        read.spills,
-        read.first,
-        target,
-        config,
-        &mut words,
-    );
-    let answer = Answer {
-        code: a.code,
-        shrink_ticks: a.shrink_ticks,
-        grow_ticks: a.grow_ticks,
-        slots: lists::least(a.slots, 2048) as u32,
-    };
-    let ops = underlying_spilled(&words, 2 * lists::least(a.ops, 4096));
-    let head = ends::put_job(out, read, start, spilled, target);
-    let end = put_operations(out, head, a.code, read, start, spilled, target, ops);
-    ends::put_answer(out, end, answer, ops)
+    let run = run_job(&job, &mut lent, &mut words);
+    let ops = &words[..2 * run.ops.min(4096)];
+    let outcome = run.outcome.map_err(Fault::from);
+    let given = Given::new(job, lists);
+    ends::put_job(text, given);
+    put_operations(text, outcome, given, ops);
+    ends::put_answer(text, numbers_of(&run), outcome, ops);
 }
 
 // The operation at which the checker refuses, if it is one.
-fn put_fault(out: &mut [u8], at: usize, v: Verdict, words: &[u32]) -> usize
-    ensures { Wrote out.old at out.new result }
+fn put_fault(text: &mut Text, verdict: Verdict, words: &[u32])
+    ensures wrote { Wrote text.old.out.now text.old.len text.new.out.now text.new.len }
+    ensures same { text.new.out.ghost_name ≡ text.old.out.ghost_name }
 {
-    if v.code < 31 {
-        return at;
+    match verdict.outcome {
+        Ok(()) | Err(Fault::Job(_) | Fault::Odd | Fault::Unlike) => {}
+        Err(_) => {
+            let index = verdict.index.min(4096);
+            put_turn(text, index, read_at(words, 2 * index));
+            text.put(b" refused\n");
+        }
     }
-    if v.code == 41 {
-        return at;
-    }
-    let i = lists::least(v.index, 4096);
-    let next = read_at(words, 2 * i);
-    let end = put_turn(out, at, i, next.kind, next.argument);
-    put(out, end, b" refused\n")
 }
 
 // A list: the job, the operations before the verdict, the one at fault, the verdict.
-fn show_list<'a>(
-    out: &mut [u8],
-    read: JobRead,
-    start: &'a [u32],
-    spilled: &'a [u32],
-    target: &'a [u32],
-    words: &'a [u32],
-) -> usize
-    ensures { Wrote out.old 0 out.new result }
+fn show_list(text: &mut Text, job: Job, lists: &JobWords, words: &[u32])
+    ensures wrote { Wrote text.old.out.now text.old.len text.new.out.now text.new.len }
+    ensures same { text.new.out.ghost_name ≡ text.old.out.ghost_name }
 {
+    let given = Given::new(job, lists);
     let mut slots = [0u32; 2048];
-    words::copy(spilled, &mut slots);
-    let v = check(
-        start,
+    words::copy(given.spilled, &mut slots);
+    let verdict = check(
+        given.start,
         &mut slots,
-        read.spills,
-        read.first,
-        target,
-        read.max_swap,
-        read.max_dup,
+        job.spills,
+        job.first,
+        given.target,
+        job.config,
         words,
     );
-    let ops = underlying_spilled(words, 2 * lists::least(v.index, 4096));
-    let head = ends::put_job(out, read, start, spilled, target);
-    let mid = put_operations(out, head, v.code, read, start, spilled, target, ops);
-    let end = put_fault(out, mid, v, words);
-    ends::put_verdict(out, end, v)
+    let before = 2 * verdict.index.min(4096);
+    ends::put_job(text, given);
+    put_operations(
+        text,
+        verdict.outcome,
+        given,
+        &words[..before.min(words.len())],
+    );
+    put_fault(text, verdict, words);
+    ends::put_verdict(text, verdict);
 }
 
 // Bytes that are no job.
-fn show_no_job(out: &mut [u8], code: u32) -> usize
-    ensures { Wrote out.old 0 out.new result }
+fn show_no_job(text: &mut Text, refusal: Refusal)
+    ensures wrote { Wrote text.old.out.now text.old.len text.new.out.now text.new.len }
+    ensures same { text.new.out.ghost_name ≡ text.old.out.ghost_name }
 {
-    let none = [0u32; 1];
     let answer = Answer {
-        code,
+        code: refusal.code(),
         shrink_ticks: 0,
         grow_ticks: 0,
         slots: 0,
     };
-    ends::put_answer(out, 0, answer, &none[..0])
+    ends::put_answer(text, answer, Err(Fault::Job(refusal)), &[]);
 }
 
-// Zeros for the lines of a trace: room for the longest one, of 4,096 operations, of which 2,048 fill a slot.
+/// Zeros for the lines of a trace: room for the longest one, of 4,096 operations, of which 2,048 fill a slot.
 pub fn room() -> [u8; 1400000]
     ensures { 1400000 ≡ length result }
 {
     [0; 1400000]
 }
 
-// The trace of a job: what the driver does with its bytes.
+/// The trace of a job: what the driver does with its bytes. How many bytes of lines there are.
 pub fn trace_job(bytes: &[u8], out: &mut [u8]) -> usize
     ensures { Wrote out.old 0 out.new result }
 {
-    let mut start = [0u32; 4096];
-    let mut spilled = [0u32; 4096];
-    let mut target = [0u32; 4096];
-    let read = read_job(bytes, &mut start, &mut spilled, &mut target);
-    if read.code != 0 {
-        return show_no_job(out, read.code);
+    let mut text = Text { out, len: 0 };
+    let mut lists = JobWords::new();
+    match read_job(bytes, &mut lists) {
+        Ok(job) => show_run(&mut text, job, &lists),
+        Err(refusal) => show_no_job(&mut text, refusal),
     }
-    let from = words::part(&start, read.starts);
-    let stored = words::part(&spilled, read.spills);
-    let to = words::part(&target, read.targets);
-    show_run(out, read, from, stored, to)
+    text.len
 }
 
-// The trace of a list on a job, the list as operation words: what the checker says of it.
+/// The trace of a list on a job, the list as operation words: what the checker says of it.
 pub fn trace_words(bytes: &[u8], words: &[u32], out: &mut [u8]) -> usize
     ensures { Wrote out.old 0 out.new result }
 {
-    let mut start = [0u32; 4096];
-    let mut spilled = [0u32; 4096];
-    let mut target = [0u32; 4096];
-    let read = read_job(bytes, &mut start, &mut spilled, &mut target);
-    if read.code != 0 {
-        return show_no_job(out, read.code);
+    let mut text = Text { out, len: 0 };
+    let mut lists = JobWords::new();
+    match read_job(bytes, &mut lists) {
+        Ok(job) => show_list(&mut text, job, &lists, words),
+        Err(refusal) => show_no_job(&mut text, refusal),
     }
-    let from = words::part(&start, read.starts);
-    let stored = words::part(&spilled, read.spills);
-    let to = words::part(&target, read.targets);
-    show_list(out, read, from, stored, to, words)
+    text.len
 }
 
-// A list that cannot be read: its line, counted from 1.
-fn show_no_list(out: &mut [u8], line: usize, full: bool) -> usize
-    ensures { Wrote out.old 0 out.new result }
+// A list that cannot be read: its line, and why.
+fn show_no_list(text: &mut Text, error: ListError)
+    ensures wrote { Wrote text.old.out.now text.old.len text.new.out.now text.new.len }
+    ensures same { text.new.out.ghost_name ≡ text.old.out.ghost_name }
 {
-    let end = put_label(out, 0, b"list: line ", line as u64);
-    if full {
-        return put(
-            out,
-            end,
-            b": there is room for 4,096 operations, and this is one more\n",
-        );
-    }
-    put(
-        out,
-        end,
-        b" is no operation: Swap(n), Dup(n), Pop, store(n) or load(n) is wanted\n",
-    )
+    text.label(b"list: line ", error.line as u64);
+    text.put(match error.why {
+        Unlisted::NoRoom => b": there is room for 4,096 operations, and this is one more\n",
+        Unlisted::NoOperation => {
+            b" is no operation: Swap(n), Dup(n), Pop, store(n) or load(n) is wanted\n"
+        }
+    });
 }
 
-// The same, the list as text in the driver's printed form.
+/// The same, the list as text in the driver's printed form.
 pub fn trace_list(bytes: &[u8], list: &[u8], out: &mut [u8]) -> usize
     ensures { Wrote out.old 0 out.new result }
 {
     let mut words = [0u32; 8192];
-    let listed = read_list(list, &mut words);
-    if listed.line != 0 {
-        return show_no_list(out, listed.line, listed.full);
+    match read_list(list, &mut words) {
+        Ok(ops) => trace_words(bytes, &words[..2 * ops.min(4096)], out),
+        Err(error) => {
+            let mut text = Text { out, len: 0 };
+            show_no_list(&mut text, error);
+            text.len
+        }
     }
-    trace_words(
-        bytes,
-        underlying_spilled(&words, 2 * lists::least(listed.ops, 4096)),
-        out,
-    )
 }

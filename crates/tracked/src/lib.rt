@@ -1,225 +1,363 @@
-// 002's TrackedStack: what each operation does to the stack's words, to the operation words and to the spill words. The words are lent to each
-// call; the numbers beside them travel by value. A refusal changes nothing.
+// 002's TrackedStack: a stack, with the words that its operations and its slots are kept in. A refusal changes nothing.
 #![tactic(auto)]
 
-ghost use Rattle.std.specs.Prelude.{◌≡◌, ◌/◌, ◌<◌, length};
-ghost use Rattle.std.proofs.Math.Option.{some};
+ghost use Rattle.std.specs.Prelude.{◌≡◌, ◌+◌, ◌<◌, ◌≤◌, ◌∷◌, length, IfOk, Some as some};
+ghost use Rattle.scope.specs.Codes.{code};
 ghost use Rattle.scope.specs.Words.{latest_of};
-ghost use Rattle.scope.specs.Stack.{word_of};
-ghost use Rattle.scope.specs.Tracked.{stored_in, numbered, pop_step, swap_step, dup_step, spill_step, load_step, unspill_step};
-ghost use Rattle.scope.specs.declared.Step.TheVariants.{Refused};
-ghost use Rattle.tracked.specs.Promises.{tracked_in, Steps, Spills, Writes};
+ghost use Rattle.scope.specs.Machine.{capacity};
+ghost use Rattle.scope.specs.Tracked.{step, step_op, emitted, stored_in, numbered, spilled_slot, next_id};
+ghost use Rattle.stack.specs.Promises.{stack_in, values_in, laid};
+ghost use Rattle.tracked.specs.Promises.{tracked_of, popped, swapped, dupped, loaded, unspilled, spilled, put, room_for_one, next_free};
+ghost use Rattle.tracked.specs.Promises.{value_in, SameLoans, Moves};
 
-use operations::{argument_of, kind_of};
-use scope::{Found, Op, Step, Word};
+use scope::{Op, Refusal, Step};
+use stack::EvmStack;
 
-// The numbers beside the lent words: the stack's length, the first slot's number, the filled slots, the operations written.
+/// The slots that are lent: their words, the number of the first one, how many are filled.
 #[derive(Clone, Copy)]
-pub struct Numbers {
-    pub len: u16,
+pub struct Slots<'a> {
+    pub words: &'a [u32],
+    pub first: u32,
+    pub filled: usize,
+}
+
+/// A stack, the words for its operations (two for each) and for its slots, the number of the first slot, the filled slots and the
+/// operations written.
+#[derive(Drop)]
+pub struct TrackedStack<'a> {
+    pub stack: &'a mut EvmStack,
+    pub ops: &'a mut [u32],
+    pub spill: &'a mut [u32],
     pub first: u32,
     pub filled: usize,
     pub written: usize,
 }
 
-// What a call answers: the step, and the numbers after it.
-#[derive(Clone, Copy)]
-pub struct Moved {
-    pub step: Step,
-    pub numbers: Numbers,
-}
-
-// A refusal with a code.
-fn refuse(t: Numbers, code: u32) -> Moved
-    ensures { result ≡ record { step = Refused code; numbers = t } }
+/// The number of the slot at a place in the spill list; nothing where a `u32` does not hold it.
+pub fn alloc_id(first: u32, i: usize) -> Option<u32>
+    ensures { result ≡ numbered first (some i) }
 {
-    Moved {
-        step: Step::Refused(code),
-        numbers: t,
-    }
+    u32::try_from(i).ok()?.checked_add(first)
 }
 
-// Writes an operation as two words, and says what the numbers are after it.
-fn write(ops: &mut [u32], t: Numbers, op: Op, len: u16, filled: usize) -> Moved
-    requires { t.written < length ops.old / 2 }
-    ensures { Writes t op len filled ops.old ops.new result }
-{
-    let at = 2 * t.written;
-    let next = at + 1;
-    let kind = kind_of(op);
-    let argument = argument_of(op);
-    ops[at] = kind;
-    ops[next] = argument;
-    Moved {
-        step: Step::Wrote(op),
-        numbers: Numbers {
-            len,
-            first: t.first,
-            filled,
-            written: t.written + 1,
-        },
-    }
-}
-
-// The number of the slot at a place in the spill list; nothing where a `u32` does not hold it.
-pub fn alloc_id(first: u32, i: usize) -> Word
-    ensures { word_of result ≡ numbered first (some i) }
-{
-    let room = 4294967295 - first as usize;
-    if room < i {
-        return Word::Nothing;
-    }
-    let id = first as usize + i;
-    Word::Is(id as u32)
-}
-
-// The filled slots' values, oldest first: a part of the lent words, all of them where more are said to be filled.
+/// The filled slots' values, oldest first: all words where more are said to be filled.
 pub fn underlying_spilled<'a>(spill: &'a [u32], filled: usize) -> &'a [u32]
     ensures { result.now ≡ stored_in filled spill.now }
 {
-    if filled <= spill.len() {
-        &spill[..filled]
-    } else {
-        spill
-    }
+    &spill[..filled.min(spill.len())]
 }
 
-// The number of the latest slot with a value, or nothing.
-pub fn get_spilled(t: Numbers, spill: &[u32], target: u32) -> Word
-    ensures { word_of result ≡ numbered t.first (latest_of target (stored_in t.filled spill.now)) }
-{
-    let s = underlying_spilled(spill, t.filled);
-    let found = lists::find_last(s, target);
-    match found {
-        Found::At(i) => alloc_id(t.first, i),
-        Found::Nothing => Word::Nothing,
+impl Slots<'_> {
+    /// The filled slots' values, oldest first.
+    pub fn stored(&self) -> &[u32]
+        ensures { result.now ≡ stored_in self.now.filled self.now.words.now }
+    {
+        underlying_spilled(self.words, self.filled)
     }
-}
 
-// Drops the top; 20, 11.
-pub fn pop(raw: &[u32; 1024], t: Numbers, ops: &mut [u32]) -> Moved
-    ensures { Steps (pop_step (tracked_in raw.now t) ops.old) result.step result.numbers raw.now raw.now ops.new }
-{
-    let taken = stack::pop_in(raw, t.len);
-    let value = taken.value;
-    match value {
-        Word::Is(_) => {
-            if ops.len() / 2 <= t.written {
-                return refuse(t, 11);
-            }
-            write(ops, t, Op::Pop, taken.len, t.filled)
+    /// The number of the latest slot with a value, or nothing.
+    pub fn get_spilled(&self, target: u32) -> Option<u32>
+        ensures { result ≡ numbered self.now.first (latest_of target (stored_in self.now.filled self.now.words.now)) }
+    {
+        let place = lists::find_last(self.stored(), target)?;
+        alloc_id(self.first, place)
+    }
+
+    /// What the slot with a number holds. `Refusal::Unfilled` for a number below the first, or of a slot that is not filled.
+    pub fn value(&self, id: u32) -> Result<u32, Refusal>
+        ensures { result ≡ value_in id self.now.first (stored_in self.now.filled self.now.words.now) }
+    {
+        let place = id.checked_sub(self.first).ok_or(Refusal::Unfilled)?;
+        self.stored()
+            .get(place as usize)
+            .copied()
+            .ok_or(Refusal::Unfilled)
+    }
+
+    /// The number of the next slot. `Refusal::Spill` where no slot is free, or the next one has no number.
+    pub fn next(&self) -> Result<u32, Refusal>
+        ensures { result ≡ next_free self.now.first self.now.filled (length self.now.words.now) }
+    {
+        if self.words.len() <= self.filled {
+            return Err(Refusal::Spill);
         }
-        Word::Nothing => refuse(t, 20),
+        alloc_id(self.first, self.filled).ok_or(Refusal::Spill)
     }
 }
 
-// Exchanges the top with the value at a depth; 23 at depth 0, 20, 21, 11.
-pub fn swap(raw: &mut [u32; 1024], t: Numbers, ops: &mut [u32], depth: u8) -> Moved
-    ensures { Steps (swap_step depth (tracked_in raw.old t) ops.old) result.step result.numbers raw.old raw.new ops.new }
-{
-    let n = stack::height(raw, t.len);
-    if depth == 0 {
-        return refuse(t, 23);
+impl TrackedStack<'_> {
+    /// The number of values.
+    pub fn len(&self) -> u16
+        ensures values { result ≡ length (values_in self.now.stack.now) }
+        ensures within { result ≤ 1024 }
+    {
+        self.stack.len()
     }
-    if n == 0 {
-        return refuse(t, 20);
-    }
-    if n <= depth as usize {
-        return refuse(t, 21);
-    }
-    if ops.len() / 2 <= t.written {
-        return refuse(t, 11);
-    }
-    let after = stack::exchange_in(raw, t.len, 0, depth as u16);
-    write(ops, t, Op::Swap(depth), after.len, t.filled)
-}
 
-// Puts a copy of the value at a depth on top; 20, 21, 7, 11.
-pub fn dup(raw: &mut [u32; 1024], t: Numbers, ops: &mut [u32], depth: u8) -> Moved
-    ensures { Steps (dup_step depth (tracked_in raw.old t) ops.old) result.step result.numbers raw.old raw.new ops.new }
-{
-    let n = stack::height(raw, t.len);
-    if n == 0 {
-        return refuse(t, 20);
+    /// The values, top first.
+    pub fn fifo(&self) -> &[u32]
+        ensures { result.now ≡ values_in self.now.stack.now }
+    {
+        self.stack.fifo()
     }
-    if n <= depth as usize {
-        return refuse(t, 21);
-    }
-    if n == 1024 {
-        return refuse(t, 7);
-    }
-    if ops.len() / 2 <= t.written {
-        return refuse(t, 11);
-    }
-    let after = stack::duplicate_in(raw, t.len, depth as u16);
-    write(ops, t, Op::Dup(depth), after.len, t.filled)
-}
 
-// Moves the top into the next slot; 20, 10 where no slot is free or the next one has no number, 11.
-pub fn spill_top(raw: &[u32; 1024], t: Numbers, ops: &mut [u32], spill: &mut [u32]) -> Moved
-    ensures { Spills (spill_step (tracked_in raw.now t) ops.old spill.old) result.step result.numbers raw.now raw.now ops.new spill.new }
-{
-    let taken = stack::pop_in(raw, t.len);
-    let value = taken.value;
-    match value {
-        Word::Is(target) => {
-            let at = t.filled;
-            if spill.len() <= at {
-                return refuse(t, 10);
-            }
-            let slot = alloc_id(t.first, at);
-            match slot {
-                Word::Is(id) => {
-                    if ops.len() / 2 <= t.written {
-                        return refuse(t, 11);
-                    }
-                    spill[at] = target;
-                    write(ops, t, Op::Store(id), taken.len, at + 1)
-                }
-                Word::Nothing => refuse(t, 10),
-            }
+    /// The slots, to look at.
+    pub fn slots(&self) -> Slots<'_>
+        ensures words { result.words.now ≡ self.now.spill.now }
+        ensures first { result.first ≡ self.now.first }
+        ensures filled { result.filled ≡ self.now.filled }
+    {
+        Slots {
+            words: self.spill,
+            first: self.first,
+            filled: self.filled,
         }
-        Word::Nothing => refuse(t, 20),
     }
-}
 
-// Puts what a slot holds on top; 22 for a slot that is not filled, 7, 11.
-pub fn load(raw: &mut [u32; 1024], t: Numbers, ops: &mut [u32], spill: &[u32], target: u32) -> Moved
-    ensures { Steps (load_step target (tracked_in raw.old t) ops.old spill.now) result.step result.numbers raw.old raw.new ops.new }
-{
-    let n = stack::height(raw, t.len);
-    if target < t.first {
-        return refuse(t, 22);
+    /// The filled slots' values, oldest first.
+    pub fn underlying_spilled(&self) -> &[u32]
+        ensures { result.now ≡ stored_in self.now.filled self.now.spill.now }
+    {
+        underlying_spilled(self.spill, self.filled)
     }
-    let i = (target - t.first) as usize;
-    let s = underlying_spilled(spill, t.filled);
-    if s.len() <= i {
-        return refuse(t, 22);
-    }
-    if n == 1024 {
-        return refuse(t, 7);
-    }
-    if ops.len() / 2 <= t.written {
-        return refuse(t, 11);
-    }
-    let value = s[i];
-    let after = stack::push_in(raw, t.len, value);
-    write(ops, t, Op::Load(target), after.len, t.filled)
-}
 
-// Puts a value that is stored on top, by its latest slot; 6 where it is in none, 7, 11.
-pub fn unspill(
-    raw: &mut [u32; 1024],
-    t: Numbers,
-    ops: &mut [u32],
-    spill: &[u32],
-    target: u32,
-) -> Moved
-    ensures { Steps (unspill_step target (tracked_in raw.old t) ops.old spill.now) result.step result.numbers raw.old raw.new ops.new }
-{
-    let alloc = get_spilled(t, spill, target);
-    match alloc {
-        Word::Is(id) => load(raw, t, ops, spill, id),
-        Word::Nothing => refuse(t, 6),
+    /// The number of the latest slot with a value, or nothing.
+    #[tactic(auto, unfolding(scope::specs::Tracked::spilled_slot))]
+    pub fn get_spilled(&self, target: u32) -> Option<u32>
+        ensures { result ≡ spilled_slot target (tracked_of self.now) self.now.spill.now }
+    {
+        self.slots().get_spilled(target)
+    }
+
+    /// The number of the first slot.
+    pub fn start_alloc_id(&self) -> u32
+        ensures { result ≡ self.now.first }
+    {
+        self.first
+    }
+
+    /// The number after the last filled slot's. `Refusal::Slots` where a `u32` does not hold it.
+    #[tactic(auto, unfolding(scope::specs::Tracked::next_id))]
+    pub fn into_next_alloc_id(&self) -> Result<u32, Refusal>
+        ensures code { code result ≡ (next_id (tracked_of self.now)).code }
+        ensures id { IfOk result (λ id. id ≡ (next_id (tracked_of self.now)).id) }
+    {
+        alloc_id(self.first, self.filled).ok_or(Refusal::Slots)
+    }
+
+    /// Whether there is room for one operation more. `Refusal::Ops`.
+    fn room(&self) -> Result<(), Refusal>
+        ensures { result ≡ room_for_one self.now }
+    {
+        if self.ops.len() / 2 <= self.written {
+            return Err(Refusal::Ops);
+        }
+        Ok(())
+    }
+
+    /// Writes an operation as two words.
+    #[tactic(auto, unfolding(scope::specs::Tracked::emitted))]
+    fn emit(&mut self, op: Op) -> Op
+        requires { self.old.written < capacity (length self.old.ops.now) }
+        ensures answer { result ≡ op }
+        ensures loans { SameLoans self.old self.new }
+        ensures stack { self.new.stack ≡ self.old.stack }
+        ensures filled { self.new.filled ≡ self.old.filled }
+        ensures written { self.new.written ≡ self.old.written + 1 }
+        ensures words { self.new.ops.now ≡ emitted self.old.ops.now self.old.written op }
+        ensures spill { self.new.spill ≡ self.old.spill }
+    {
+        let at = 2 * self.written;
+        self.ops[at] = op.kind();
+        self.ops[at + 1] = op.argument();
+        self.written += 1;
+        op
+    }
+
+    /// Puts a value on top, and writes the operation that brings it. `Refusal::Full`, `Refusal::Ops`, in this order.
+    #[tactic(auto, using(stack::proofs::Laws::laid_fifo), unfolding(scope::specs::Stack::push_on))]
+    pub fn try_put(&mut self, value: u32, op: Op) -> Result<Op, Refusal>
+        ensures loans { SameLoans self.old self.new }
+        ensures code { code result ≡ (put value op self.old).code }
+        ensures op { step_op (step result) ≡ (put value op self.old).op }
+        ensures state { tracked_of self.new ≡ (put value op self.old).state }
+        ensures words { self.new.ops.now ≡ (put value op self.old).words }
+        ensures spill { self.new.spill ≡ self.old.spill }
+        ensures array { self.new.stack.now.stack_raw ≡ laid (put value op self.old).state.stack.values self.old.stack.now.stack_raw }
+    {
+        if self.len() == 1024 {
+            return Err(Refusal::Full);
+        }
+        self.room()?;
+        self.stack.push(value).unwrap();
+        Ok(self.emit(op))
+    }
+
+    /// Drops the top. `Refusal::Empty`, `Refusal::Ops`, in this order.
+    #[tactic(auto, using(stack::proofs::Laws::laid_fifo), unfolding(scope::specs::Tracked::pop_step, scope::specs::Stack::pop_on))]
+    pub fn try_pop(&mut self) -> Result<Op, Refusal>
+        ensures loans { SameLoans self.old self.new }
+        ensures code { code result ≡ (popped self.old).code }
+        ensures op { step_op (step result) ≡ (popped self.old).op }
+        ensures state { tracked_of self.new ≡ (popped self.old).state }
+        ensures words { self.new.ops.now ≡ (popped self.old).words }
+        ensures spill { self.new.spill ≡ self.old.spill }
+        ensures array { self.new.stack.now.stack_raw ≡ laid (popped self.old).state.stack.values self.old.stack.now.stack_raw }
+    {
+        if self.stack.is_empty() {
+            return Err(Refusal::Empty);
+        }
+        self.room()?;
+        self.stack.pop();
+        Ok(self.emit(Op::Pop))
+    }
+
+    /// Exchanges the top with the value at a depth. `Refusal::SwapOfZero`, `Refusal::Empty`, `Refusal::Outside`, `Refusal::Ops`, in this
+    /// order.
+    #[tactic(auto, using(stack::proofs::Laws::laid_fifo), unfolding(scope::specs::Tracked::swap_step, scope::specs::Stack::exchange_on))]
+    pub fn try_swap(&mut self, depth: u8) -> Result<Op, Refusal>
+        ensures loans { SameLoans self.old self.new }
+        ensures code { code result ≡ (swapped depth self.old).code }
+        ensures op { step_op (step result) ≡ (swapped depth self.old).op }
+        ensures state { tracked_of self.new ≡ (swapped depth self.old).state }
+        ensures words { self.new.ops.now ≡ (swapped depth self.old).words }
+        ensures spill { self.new.spill ≡ self.old.spill }
+        ensures array { self.new.stack.now.stack_raw ≡ laid (swapped depth self.old).state.stack.values self.old.stack.now.stack_raw }
+    {
+        if depth == 0 {
+            return Err(Refusal::SwapOfZero);
+        }
+        self.stack.value_at(depth.into())?;
+        self.room()?;
+        self.stack.swap_with_top(depth.into()).unwrap();
+        Ok(self.emit(Op::Swap(depth)))
+    }
+
+    /// Puts a copy of the value at a depth on top. `Refusal::Empty`, `Refusal::Outside`, `Refusal::Full`, `Refusal::Ops`, in this order.
+    #[tactic(auto, using(stack::proofs::Laws::laid_fifo), unfolding(scope::specs::Tracked::dup_step))]
+    pub fn try_dup(&mut self, depth: u8) -> Result<Op, Refusal>
+        ensures loans { SameLoans self.old self.new }
+        ensures code { code result ≡ (dupped depth self.old).code }
+        ensures op { step_op (step result) ≡ (dupped depth self.old).op }
+        ensures state { tracked_of self.new ≡ (dupped depth self.old).state }
+        ensures words { self.new.ops.now ≡ (dupped depth self.old).words }
+        ensures spill { self.new.spill ≡ self.old.spill }
+        ensures array { self.new.stack.now.stack_raw ≡ laid (dupped depth self.old).state.stack.values self.old.stack.now.stack_raw }
+    {
+        let value = self.stack.value_at(depth.into())?;
+        self.try_put(value, Op::Dup(depth))
+    }
+
+    /// Moves the top into the next slot. `Refusal::Empty`, `Refusal::Spill`, `Refusal::Ops`, in this order.
+    #[tactic(auto, using(stack::proofs::Laws::laid_fifo), unfolding(scope::specs::Tracked::spill_step, scope::specs::Stack::pop_on))]
+    pub fn try_spill_top(&mut self) -> Result<Op, Refusal>
+        ensures loans { SameLoans self.old self.new }
+        ensures code { code result ≡ (spilled self.old).step.code }
+        ensures op { step_op (step result) ≡ (spilled self.old).step.op }
+        ensures state { tracked_of self.new ≡ (spilled self.old).step.state }
+        ensures words { self.new.ops.now ≡ (spilled self.old).step.words }
+        ensures spill { self.new.spill.now ≡ (spilled self.old).spill }
+        ensures array { self.new.stack.now.stack_raw ≡ laid (spilled self.old).step.state.stack.values self.old.stack.now.stack_raw }
+    {
+        let value = self.stack.value_at(0)?;
+        let id = self.slots().next()?;
+        self.room()?;
+        self.stack.pop();
+        self.spill[self.filled] = value;
+        self.filled += 1;
+        Ok(self.emit(Op::Store(id)))
+    }
+
+    /// Puts what a slot holds on top. `Refusal::Unfilled`, `Refusal::Full`, `Refusal::Ops`, in this order.
+    #[tactic(auto, using(stack::proofs::Laws::laid_fifo), unfolding(scope::specs::Tracked::load_step))]
+    pub fn try_load(&mut self, id: u32) -> Result<Op, Refusal>
+        ensures loans { SameLoans self.old self.new }
+        ensures code { code result ≡ (loaded id self.old).code }
+        ensures op { step_op (step result) ≡ (loaded id self.old).op }
+        ensures state { tracked_of self.new ≡ (loaded id self.old).state }
+        ensures words { self.new.ops.now ≡ (loaded id self.old).words }
+        ensures spill { self.new.spill ≡ self.old.spill }
+        ensures array { self.new.stack.now.stack_raw ≡ laid (loaded id self.old).state.stack.values self.old.stack.now.stack_raw }
+    {
+        let value = self.slots().value(id)?;
+        self.try_put(value, Op::Load(id))
+    }
+
+    /// Puts a stored value on top, by its latest slot. `Refusal::Missing`, `Refusal::Full`, `Refusal::Ops`, in this order.
+    #[tactic(auto, using(stack::proofs::Laws::laid_fifo), unfolding(scope::specs::Tracked::unspill_step))]
+    pub fn try_unspill(&mut self, target: u32) -> Result<Op, Refusal>
+        ensures loans { SameLoans self.old self.new }
+        ensures code { code result ≡ (unspilled target self.old).code }
+        ensures op { step_op (step result) ≡ (unspilled target self.old).op }
+        ensures state { tracked_of self.new ≡ (unspilled target self.old).state }
+        ensures words { self.new.ops.now ≡ (unspilled target self.old).words }
+        ensures spill { self.new.spill ≡ self.old.spill }
+        ensures array { self.new.stack.now.stack_raw ≡ laid (unspilled target self.old).state.stack.values self.old.stack.now.stack_raw }
+    {
+        let id = self.get_spilled(target).ok_or(Refusal::Missing)?;
+        self.try_load(id)
+    }
+
+    /// Drops the top, and says which operation was written, or why none was.
+    pub fn pop(&mut self) -> Step
+        ensures loans { SameLoans self.old self.new }
+        ensures moves { Moves (popped self.old) result self.old self.new }
+        ensures spill { self.new.spill ≡ self.old.spill }
+    {
+        self.try_pop().into()
+    }
+
+    /// `try_swap`, as a step.
+    pub fn swap(&mut self, depth: u8) -> Step
+        ensures loans { SameLoans self.old self.new }
+        ensures moves { Moves (swapped depth self.old) result self.old self.new }
+        ensures spill { self.new.spill ≡ self.old.spill }
+    {
+        self.try_swap(depth).into()
+    }
+
+    /// `try_dup`, as a step.
+    pub fn dup(&mut self, depth: u8) -> Step
+        ensures loans { SameLoans self.old self.new }
+        ensures moves { Moves (dupped depth self.old) result self.old self.new }
+        ensures spill { self.new.spill ≡ self.old.spill }
+    {
+        self.try_dup(depth).into()
+    }
+
+    /// `try_spill_top`, as a step.
+    pub fn spill_top(&mut self) -> Step
+        ensures loans { SameLoans self.old self.new }
+        ensures moves { Moves (spilled self.old).step result self.old self.new }
+        ensures spill { self.new.spill.now ≡ (spilled self.old).spill }
+    {
+        self.try_spill_top().into()
+    }
+
+    /// `try_load`, as a step.
+    pub fn load(&mut self, id: u32) -> Step
+        ensures loans { SameLoans self.old self.new }
+        ensures moves { Moves (loaded id self.old) result self.old self.new }
+        ensures spill { self.new.spill ≡ self.old.spill }
+    {
+        self.try_load(id).into()
+    }
+
+    /// `try_unspill`, as a step.
+    pub fn unspill(&mut self, target: u32) -> Step
+        ensures loans { SameLoans self.old self.new }
+        ensures moves { Moves (unspilled target self.old) result self.old self.new }
+        ensures spill { self.new.spill ≡ self.old.spill }
+    {
+        self.try_unspill(target).into()
+    }
+
+    /// `try_put`, as a step.
+    pub fn put(&mut self, value: u32, op: Op) -> Step
+        ensures loans { SameLoans self.old self.new }
+        ensures moves { Moves (put value op self.old) result self.old self.new }
+        ensures spill { self.new.spill ≡ self.old.spill }
+    {
+        self.try_put(value, op).into()
     }
 }

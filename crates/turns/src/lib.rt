@@ -2,82 +2,73 @@
 #![tactic(auto)]
 
 ghost use Rattle.std.specs.Prelude.{◌≡◌};
-ghost use Rattle.answer.specs.Promises.{said};
-ghost use Rattle.tracked.specs.Promises.{tracked_in};
-ghost use Rattle.turns.specs.Promises.{step_of, step_said, Turned, kept as kept_in, completed_in};
+ghost use Rattle.stack.specs.Promises.{laid};
+ghost use Rattle.tracked.specs.Promises.{tracked_of, SameLoans};
+ghost use Rattle.turns.specs.Promises.{step_of, turned, kept as kept_in, completed_in};
 
-use answer::{Said, read_op};
+use answer::read_op;
 use indices::FromBottom;
-use questions::differs;
+use operations::ScheduleConfig;
+use questions::View;
+use reader::Record;
 use rules::counting::update_complete_at_bottom;
-use scope::Op;
-use tracked::Numbers;
+use scope::{Op, Step};
+use tracked::TrackedStack;
 
-// Carries out an operation; the numbers after it. Nothing changes where the call refuses.
-fn perform(raw: &mut [u32; 1024], t: Numbers, spill: &mut [u32], op: Op) -> Numbers
-    ensures { Turned (step_of op (tracked_in raw.old t) spill.old) raw.old result raw.new spill.new }
+/// Carries out an operation by the call that it names. A `Store` takes the next slot, whichever it says.
+#[tactic(auto, unfolding(crate::specs::Promises::step_of))]
+pub fn perform(current: &mut TrackedStack, op: Op) -> Step
+    ensures loans { SameLoans current.old current.new }
+    ensures state { tracked_of current.new ≡ (step_of op current.old).step.state }
+    ensures array { current.new.stack.now.stack_raw
+        ≡ laid (step_of op current.old).step.state.stack.values current.old.stack.now.stack_raw }
+    ensures slots { current.new.spill.now ≡ (step_of op current.old).spill }
 {
-    let mut words = [0u32; 2];
     match op {
-        Op::Swap(depth) => {
-            let m = tracked::swap(raw, t, &mut words, depth);
-            m.numbers
-        }
-        Op::Dup(depth) => {
-            let m = tracked::dup(raw, t, &mut words, depth);
-            m.numbers
-        }
-        Op::Pop => {
-            let m = tracked::pop(raw, t, &mut words);
-            m.numbers
-        }
-        Op::Store(_) => {
-            let m = tracked::spill_top(raw, t, &mut words, spill);
-            m.numbers
-        }
-        Op::Load(id) => {
-            let m = tracked::load(raw, t, &mut words, spill, id);
-            m.numbers
-        }
+        Op::Swap(depth) => current.swap(depth),
+        Op::Dup(depth) => current.dup(depth),
+        Op::Pop => current.pop(),
+        Op::Store(_) => current.spill_top(),
+        Op::Load(id) => current.load(id),
     }
 }
 
-// The same for an operation's words; where they are none, nothing changes.
-pub fn turn(
-    raw: &mut [u32; 1024],
-    t: Numbers,
-    spill: &mut [u32],
-    kind: u32,
-    argument: u32,
-) -> Numbers
-    ensures { Turned (step_said (said kind argument) (tracked_in raw.old t) spill.old) raw.old result raw.new spill.new }
+/// The same for an operation's words; where they are none, nothing changes.
+#[tactic(auto, using(stack::proofs::Laws::laid_fifo))]
+pub fn turn(current: &mut TrackedStack, item: Record)
+    ensures loans { SameLoans current.old current.new }
+    ensures state { tracked_of current.new ≡ (turned item current.old).step.state }
+    ensures array { current.new.stack.now.stack_raw
+        ≡ laid (turned item current.old).step.state.stack.values current.old.stack.now.stack_raw }
+    ensures slots { current.new.spill.now ≡ (turned item current.old).spill }
 {
-    match read_op(kind, argument) {
-        Said::Is(op) => perform(raw, t, spill, op),
-        Said::Nothing => t,
+    if let Some(op) = read_op(item.kind, item.argument) {
+        perform(current, op);
     }
 }
 
-// Of so many positions from the bottom, those below the first at which the stack is not the target.
-fn kept<'a>(current: &'a [u32], target: &'a [u32], before: usize) -> usize
-    ensures { result ≡ kept_in current.now target.now before }
+// Of the completed positions from the bottom, those below the first at which the stack is not the target.
+fn kept(view: &View) -> usize
+    ensures { result ≡ kept_in view.now.current.now view.now.target.now view.now.complete }
 {
-    let e = lists::least(before, lists::least(current.len(), target.len()));
-    let mut p = 0;
-    while p < e {
-        if differs(current, target, FromBottom(p)) {
-            return p;
-        }
-        p += 1;
-    }
-    p
+    let end = view.complete.min(view.end());
+    (0..end)
+        .find(|p| view.differs(FromBottom(*p)))
+        .unwrap_or(end)
 }
 
-// How many positions from the bottom are completed, where so many were before: counting goes on from them, or from the first of them that is
-// not the target's any more.
-pub fn completed<'a>(current: &'a [u32], target: &'a [u32], before: usize) -> usize
+/// How many positions from the bottom are completed, where so many were before: counting goes on from them, or from the first of them
+/// that is not the target's any more.
+pub fn completed(current: &[u32], target: &[u32], before: usize) -> usize
     ensures { result ≡ completed_in current.now target.now before }
 {
-    let from = kept(current, target, before);
-    update_complete_at_bottom(current, target, from)
+    let mut view = View {
+        current,
+        target,
+        spilled: &[],
+        complete: before,
+        config: ScheduleConfig::default(),
+    };
+    view.complete = kept(&view);
+    update_complete_at_bottom(&view)
 }

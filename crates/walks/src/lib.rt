@@ -1,137 +1,113 @@
 // The lines of a list's operations, one after the other, each with the stack that it leaves.
 #![tactic(auto)]
 
-ghost use Rattle.std.specs.Prelude.{◌++◌};
-ghost use Rattle.lines.specs.Promises.{Lays, Wrote, turn_text, state_text};
-ghost use Rattle.walks.specs.Promises.{filled_text, OneTurn};
+ghost use Rattle.std.specs.Prelude.{◌≡◌, ◌++◌};
+ghost use Rattle.scope.specs.Tracked.{stored_in};
+ghost use Rattle.stack.specs.Promises.{laid, values_in};
+ghost use Rattle.printing.specs.Promises.{Lays};
+ghost use Rattle.lines.specs.Promises.{Wrote, turn_text, state_text};
+ghost use Rattle.tracked.specs.Promises.{tracked_of, SameLoans};
+ghost use Rattle.turns.specs.Promises.{turned, completed_in};
+ghost use Rattle.walks.specs.Promises.{filled_text, fresh, line_text};
 
-use lines::{put, put_slots, put_state, put_turn};
-use reader::read_at;
+use lines::{put_slots, put_state, put_turn};
+use printing::Text;
+use reader::{Reader, Record};
 use stack::EvmStack;
-use tracked::{Numbers, underlying_spilled};
+use tracked::TrackedStack;
 use turns::{completed, turn};
 
-// Where a trace stands, beside the lent words: the tracked stack's numbers, the completed positions, the place after the last line.
+// What a walk goes towards, and how many positions are completed so far.
 #[derive(Clone, Copy)]
-pub(crate) struct Walk {
-    pub(crate) numbers: Numbers,
-    pub(crate) done: usize,
-    pub(crate) end: usize,
+struct Walk<'a> {
+    target: &'a [u32],
+    done: usize,
 }
 
 // The slots, where an operation has filled one, and the line's end.
-fn put_filled(out: &mut [u8], at: usize, first: u32, before: usize, slots: &[u32]) -> usize
-    ensures { Lays out.old at (filled_text first before slots.now) out.new result }
+fn put_filled(text: &mut Text, first: u32, before: usize, slots: &[u32])
+    ensures lays { Lays text.old.out.now text.old.len (filled_text first before slots.now) text.new.out.now text.new.len }
+    ensures same { text.new.out.ghost_name ≡ text.old.out.ghost_name }
 {
     if before < slots.len() {
-        let from = put(out, at, b"  slots");
-        let end = put_slots(out, from, first, slots);
-        return put(out, end, b"\n");
+        text.put(b"  slots");
+        put_slots(text, first, slots);
     }
-    put(out, at, b"\n")
-}
-
-// The operation with the completed positions and the stack after it.
-fn put_done(
-    out: &mut [u8],
-    at: usize,
-    index: usize,
-    kind: u32,
-    argument: u32,
-    done: usize,
-    values: &[u32],
-) -> usize
-    ensures { Lays out.old at (turn_text index kind argument ++ state_text done values.now) out.new result }
-{
-    let end = put_turn(out, at, index, kind, argument);
-    put_state(out, end, done, values)
-}
-
-// One operation: carried out, counted, shown.
-fn put_one(
-    out: &mut [u8],
-    w: Walk,
-    raw: &mut [u32; 1024],
-    spill: &mut [u32],
-    target: &[u32],
-    index: usize,
-    kind: u32,
-    argument: u32,
-) -> Walk
-    ensures { OneTurn out.old raw.old spill.old target.now w index kind argument result out.new raw.new spill.new }
-{
-    let n = w.numbers;
-    let t = Numbers {
-        len: n.len,
-        first: n.first,
-        filled: n.filled,
-        written: 0,
-    };
-    let numbers = turn(raw, t, spill, kind, argument);
-    let values = stack::fifo(raw, numbers.len);
-    let done = completed(values, target, w.done);
-    let shown = put_done(out, w.end, index, kind, argument, done, values);
-    let slots = underlying_spilled(spill, numbers.filled);
-    let end = put_filled(out, shown, n.first, n.filled, slots);
-    Walk { numbers, done, end }
+    text.put(b"\n");
 }
 
 // The line of the start, under the names of the columns.
-fn put_start(out: &mut [u8], at: usize, done: usize, values: &[u32]) -> usize
-    ensures { Wrote out.old at out.new result }
+fn put_start(text: &mut Text, done: usize, values: &[u32])
+    ensures wrote { Wrote text.old.out.now text.old.len text.new.out.now text.new.len }
+    ensures same { text.new.out.ghost_name ≡ text.old.out.ghost_name }
 {
-    let names = put(out, at, b"#     operation         done  stack, top first\n");
-    let from = put(out, names, b"      start             ");
-    let end = put_state(out, from, done, values);
-    put(out, end, b"\n")
+    text.put(b"#     operation         done  stack, top first\n");
+    text.put(b"      start             ");
+    put_state(text, done, values);
+    text.put(b"\n");
 }
 
-// A line for each operation of the words; the place after them.
-fn put_turns(
-    out: &mut [u8],
-    start: Walk,
-    raw: &mut [u32; 1024],
-    spill: &mut [u32],
-    target: &[u32],
-    words: &[u32],
-) -> usize
-    ensures { Wrote out.old start.end out.new result }
-{
-    let mut w = start;
-    let mut i: usize = 0;
-    let count = words.len() / 2;
-    while i < count {
-        let next = read_at(words, 2 * i);
-        w = put_one(out, w, raw, spill, target, i, next.kind, next.argument);
-        i += 1;
+impl Walk<'_> {
+    // One operation: carried out, counted, shown.
+    fn put_one(&mut self, text: &mut Text, current: &mut TrackedStack, index: usize, item: Record)
+        ensures target { self.new.target ≡ self.old.target }
+        ensures loans { SameLoans current.old current.new }
+        ensures state { tracked_of current.new ≡ (turned item (fresh current.old)).step.state }
+        ensures array { current.new.stack.now.stack_raw
+            ≡ laid (turned item (fresh current.old)).step.state.stack.values current.old.stack.now.stack_raw }
+        ensures slots { current.new.spill.now ≡ (turned item (fresh current.old)).spill }
+        ensures counted { self.new.done ≡ completed_in (values_in current.new.stack.now) self.old.target.now self.old.done }
+        ensures shown { Lays text.old.out.now text.old.len (line_text index item current.old.filled current.new self.new.done)
+            text.new.out.now text.new.len }
+        ensures same { text.new.out.ghost_name ≡ text.old.out.ghost_name }
+    {
+        let before = current.filled;
+        current.written = 0;
+        turn(current, item);
+        self.done = completed(current.fifo(), self.target, self.done);
+        put_turn(text, index, item);
+        put_state(text, self.done, current.fifo());
+        put_filled(text, current.first, before, current.underlying_spilled());
     }
-    w.end
+
+    // A line for each operation of the words.
+    fn put_turns(&mut self, text: &mut Text, current: &mut TrackedStack, words: &[u32])
+        ensures wrote { Wrote text.old.out.now text.old.len text.new.out.now text.new.len }
+        ensures same { text.new.out.ghost_name ≡ text.old.out.ghost_name }
+    {
+        for (index, item) in Reader::new(words).take(words.len() / 2).enumerate() {
+            self.put_one(text, current, index, item);
+        }
+    }
 }
 
-// From a start stack of at most 1,024 values: its line, and a line for each operation of the words.
-pub fn put_walk<'a>(
-    out: &mut [u8],
-    at: usize,
-    start: &'a [u32],
+/// From a start stack of at most 1,024 values: its line, and a line for each operation of the words.
+pub fn put_walk(
+    text: &mut Text,
+    start: &[u32],
     spill: &mut [u32],
     filled: usize,
     first: u32,
-    target: &'a [u32],
+    target: &[u32],
     words: &[u32],
-) -> usize
-    ensures { Wrote out.old at out.new result }
+)
+    ensures wrote { Wrote text.old.out.now text.old.len text.new.out.now text.new.len }
+    ensures same { text.new.out.ghost_name ≡ text.old.out.ghost_name }
 {
-    let made = EvmStack::from_fifo(start);
-    let mut laid = made.stack;
-    let len = laid.stack_len;
-    let done = completed(start, target, 0);
-    let end = put_start(out, at, done, start);
-    let numbers = Numbers {
-        len,
+    let mut stack = EvmStack::from_fifo(start).unwrap_or(EvmStack::new());
+    let mut ops = [0u32; 2];
+    let mut current = TrackedStack {
+        stack: &mut stack,
+        ops: &mut ops,
+        spill,
         first,
         filled,
         written: 0,
     };
-    let w = Walk { numbers, done, end };
-    put_turns(out, w, &mut laid.stack_raw, spill, target, words)
+    let mut walk = Walk {
+        target,
+        done: completed(start, target, 0),
+    };
+    put_start(text, walk.done, start);
+    walk.put_turns(text, &mut current, words);
 }

@@ -1,20 +1,20 @@
--- Storing the lines that are left into the buffer as it is gives the whole.
-use borrow.Author.Rules.{rules}
-use native.Mathlib.Omega.{arith}
-use Rattle.answer.proofs.Words.{line-room, line-place, line-again, line-end, place_end}
+-- Line by line.
+use Rattle.std.proofs.Common.{rules, refl, ◌∙◌, sym}
+use Rattle.answer.proofs.Words.{lines-start, lines-end, no-line, one-line}
 use Rattle.answer.proofs.put_lines.Goals as goal
 
-pub put_line-end-requires : goal.put_line-end-requires
-put_line-end-requires c = let l = c.loop-i in line-room c.args.words.now l.i l.end _ _ (omega arith) l.invariant.3 (omega arith)
+pub loop-item-init : goal.loop-item-init
+loop-item-init c = (λ os e. let s = lines-start c.args.words.now c.args.text.now.out.now c.args.text.now.len os e in search (s, rules), refl)
 
-pub loop-i-preserved : goal.loop-i-preserved
-loop-i-preserved c =
-    let l = c.loop-i in let w = c.args.words.now in let p = c.put_line-end.ensures in (
-      omega arith,
-      omega arith,
-      line-again w l.i l.out _ l.end _ _ p (omega arith) l.invariant.2,
-      line-place w l.i l.out _ l.end _ _ p (omega arith) l.invariant.3,
-    )
+pub loop-item-preserved-in-Some-read_op : goal.loop-item-preserved-in-Some-read_op
+loop-item-preserved-in-Some-read_op c = (
+  λ os e. one-line (c.loop-item.invariant.0 os e) _ _ c.in-Some.ensures.steps c.in-Some-read_op.op _ _ _ _ _
+      (sym c.in-Some-read_op.is ∙ c.read_op.ensures) c.into.ensures c.operation.ensures.lays c.put.ensures.lays,
+  search rules,
+)
 
-pub returns : goal.returns
-returns c = record { bytes-are = search (line-end, rules); next-is = search (place_end, rules) }
+pub loop-item-preserved : goal.loop-item-preserved
+loop-item-preserved c = (λ os e. no-line (c.loop-item.invariant.0 os e) _ _ c.in-Some.ensures.steps (search rules), c.loop-item.invariant.1)
+
+pub returns-clause-lays : goal.returns-clause-lays
+returns-clause-lays c os e = lines-end (c.loop-item.invariant.0 os e) c.in-None.ensures.steps.0

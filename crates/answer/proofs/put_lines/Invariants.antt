@@ -1,16 +1,14 @@
--- Storing the lines that are left into the buffer as it is gives the whole.
-use Prim.Native.Nat.{◌+◌, ◌-◌, ◌≤◌}
-use mathlib.Core.Path.{◌≡◌}
-use lib.ListN.{length, drop}
-use lib.Seq.{sets}
-use Rattle.answer.specs.Promises.{lines_in}
+-- What is left, laid after what is there, gives the whole.
+use Rattle.std.proofs.Common.{◌≡◌, List, Some}
+use Rattle.scope.specs.declared.Op.{Op}
+use Rattle.scope.specs.JobFile.{op_lines}
+use Rattle.reader.specs.Promises.{left}
+use Rattle.answer.specs.Promises.{ops_in}
+use Rattle.answer.proofs.Words.{Still}
 use Rattle.answer.proofs.put_lines.Given as goal
 
-abbrev pub invariant-loop-i : goal.invariant-loop-i
-invariant-loop-i l =
-    (l.i ≤ length l.words) × (length l.out ≡ length l.initial.out)
-    × (sets l.out l.end (lines_in (drop l.i l.words)) ≡ sets l.initial.out l.at (lines_in l.words))
-    × (l.end + length (lines_in (drop l.i l.words)) ≡ l.at + length (lines_in l.words))
-
-abbrev pub decreases-loop-i : goal.decreases-loop-i
-decreases-loop-i l = length l.words - l.i
+abbrev pub invariant-loop-item : goal.invariant-loop-item
+invariant-loop-item l =
+    ((os : List Op) → ops_in l.words ≡ Some os
+    → Still l.initial.text.out.now l.initial.text.len (op_lines os) l.text.out.now l.text.len (left l.item-iterator))
+    × (l.text.out.ghost_name ≡ l.initial.text.out.ghost_name)

@@ -11,6 +11,3 @@ invariant-loop-i l =
     (l.i ≤ l.count) × (length l.words ≡ length l.initial.words)
     × (sets l.words l.i (words_at l.bytes (l.at + 4 * l.i) (l.count - l.i))
     ≡ sets l.initial.words 0 (words_at l.bytes l.at l.count))
-
-abbrev pub decreases-loop-i : goal.decreases-loop-i
-decreases-loop-i l = l.count - l.i

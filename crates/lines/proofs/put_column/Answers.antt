@@ -1,7 +1,7 @@
--- The number, and blanks for what its digits leave of the width.
-use borrow.Author.Rules.{rules}
-use Rattle.lines.proofs.Parts.{column-laid}
+-- Blanks for what the digits leave of the width.
+use Rattle.std.proofs.Common.{rules}
+use Rattle.lines.proofs.Parts.{padded}
 use Rattle.lines.proofs.put_column.Goals as goal
 
-pub returns : goal.returns
-returns c = search (column-laid, rules)
+pub returns-clause-lays : goal.returns-clause-lays
+returns-clause-lays c = search (padded, rules)

@@ -1,7 +1,7 @@
--- The form is short enough for the buffer in which it is measured.
-use borrow.Author.Rules.{rules}
-use Rattle.lines.proofs.Parts.{operation-laid}
+-- Blanks for what the form leaves of the width.
+use Rattle.std.proofs.Common.{rules}
+use Rattle.lines.proofs.Parts.{padded}
 use Rattle.lines.proofs.put_operation_column.Goals as goal
 
-pub returns : goal.returns
-returns c = search (operation-laid, rules)
+pub returns-clause-lays : goal.returns-clause-lays
+returns-clause-lays c = search (padded, rules)

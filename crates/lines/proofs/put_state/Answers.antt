@@ -1,7 +1,7 @@
 -- One text after the other.
-use borrow.Author.Rules.{rules}
-use Rattle.lines.proofs.Laying.{then}
+use Rattle.std.proofs.Common.{rules}
+use Rattle.printing.proofs.Laying.{then}
 use Rattle.lines.proofs.put_state.Goals as goal
 
-pub returns : goal.returns
-returns c = search (then, rules)
+pub returns-clause-lays : goal.returns-clause-lays
+returns-clause-lays c = search (then, rules)

@@ -1,7 +1,7 @@
 -- One text after the other.
-use borrow.Author.Rules.{rules}
-use Rattle.lines.proofs.Parts.{unknown-laid}
+use Rattle.std.proofs.Common.{rules}
+use Rattle.printing.proofs.Laying.{then}
 use Rattle.lines.proofs.put_unknown.Goals as goal
 
-pub returns : goal.returns
-returns c = search (unknown-laid, rules)
+pub returns-clause-lays : goal.returns-clause-lays
+returns-clause-lays c = let both = then c.label.ensures.lays c.label-2.ensures.lays in search (both, rules)

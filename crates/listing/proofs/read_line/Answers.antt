@@ -1,7 +1,7 @@
 -- A line that is the same as the form is the form.
-use borrow.Author.Rules.{rules}
+use Rattle.std.proofs.Common.{rules}
 use Rattle.listing.proofs.Reading.{read-it}
 use Rattle.listing.proofs.read_line.Goals as goal
 
-pub returns-then-same : goal.returns-then-same
-returns-then-same c = search (read-it, rules)
+pub returns-then-eq-clause-form : goal.returns-then-eq-clause-form
+returns-then-eq-clause-form c = search (read-it, rules)

@@ -1,12 +1,12 @@
--- What is counted so far and the count of the rest make the whole count; a turn counts one block.
-use borrow.Author.Rules.{rules}
-use Prim.Native.Nat.{◌+◌}
-use native.Mathlib.Omega.{arith}
-use lib.ListN.{length-drop, length-take}
-use Rattle.lists.proofs.Blocks.{counted-on}
+-- A turn counts one block.
+use Rattle.std.proofs.Common.{rules}
+use Rattle.scope.specs.Words.{count}
+use Rattle.lists.proofs.Blocks.{counted_on}
 use Rattle.lists.proofs.count_of.Goals as goal
 
-pub loop-i-preserved : goal.loop-i-preserved
-loop-i-preserved c =
-    let i = c.loop-i.i in
-    (search rules, omega (arith, simp (length-take, length-drop) at c.few.ensures.1), counted-on _ _ i _ _ (search rules) (i + 1024) c.few.ensures.0 (omega arith))
+pub loop-block-preserved : goal.loop-block-preserved
+loop-block-preserved c =
+    let whole = count c.args.v c.args.s.now in
+    let next = c.in-Some in
+    let on = counted_on c.args.v c.loop-block.n c.few.result whole 1024 c.loop-block.rest.now next.block.now next.after.now in
+    (on (search rules) (search rules) (search rules) (search rules), search rules)

@@ -1,12 +1,10 @@
--- What is counted so far and the count of the rest make the whole count; a turn counts one block.
-use Prim.Native.Nat.{◌+◌, ◌-◌, ◌≤◌}
-use mathlib.Core.Path.{◌≡◌}
-use lib.ListN.{length, drop}
+-- What is counted and the count of the rest make the whole count.
+use Rattle.std.proofs.Common.{◌≡◌, ◌≤◌, ◌+◌, length}
 use Rattle.scope.specs.Words.{count}
 use Rattle.lists.proofs.count_of.Given as goal
 
-abbrev pub invariant-loop-i : goal.invariant-loop-i
-invariant-loop-i l = (l.i ≤ length l.s) × (l.n ≤ l.i) × (l.n + count l.v (drop l.i l.s) ≡ count l.v l.s)
+abbrev pub invariant-loop-block : goal.invariant-loop-block
+invariant-loop-block l = (l.n + count l.v l.rest ≡ count l.v l.s) × (l.n + length l.rest ≤ length l.s)
 
-abbrev pub decreases-loop-i : goal.decreases-loop-i
-decreases-loop-i l = length l.s - l.i
+abbrev pub decreases-loop-block : goal.decreases-loop-block
+decreases-loop-block l = length l.rest

@@ -1,16 +1,6 @@
--- What is counted so far and the count of the rest make the whole count.
-use borrow.Author.Rules.{rules}
-use native.Mathlib.Omega.{arith}
-use Rattle.scope.proofs.Walks.{count-hit, count-miss, count-out}
+use Rattle.std.proofs.Common.{rules}
+use Rattle.lists.proofs.Finding.{count_list}
 use Rattle.lists.proofs.few.Goals as goal
-use Rattle.lists.proofs.few.Goals.{else-s-i, then-s-i}
 
-pub loop-i-preserved : goal.loop-i-preserved
-loop-i-preserved c =
-    let l = c.args.s.now in
-    let v = c.args.v in
-    let i = c.loop-i.i in
-    elim c.if-s-i.branch [ then-s-i w ↦ omega (arith, count-hit v l i (search rules) (search rules)) | else-s-i w ↦ omega (arith, count-miss v l i (search rules) (search rules)) ]
-
-pub returns : goal.returns
-returns c = (search (rules, count-out), search rules)
+pub returns-clause-value : goal.returns-clause-value
+returns-clause-value c = count_list c.loop-x.n c.loop-x.x-index c.args.v c.args.s.now (search rules) (search rules)

@@ -1,12 +1,6 @@
--- What is counted so far and the count of the rest make the whole count.
-use Prim.Native.Nat.{◌+◌, ◌-◌, ◌≤◌}
-use mathlib.Core.Path.{◌≡◌}
-use lib.ListN.{length, drop}
-use Rattle.scope.specs.Words.{count}
+-- The count of what is passed.
+use Rattle.std.proofs.Common.{◌≡◌, ◌≤◌, ◌==◌, count_by, take}
 use Rattle.lists.proofs.few.Given as goal
 
-abbrev pub invariant-loop-i : goal.invariant-loop-i
-invariant-loop-i l = (l.i ≤ length l.s) × (l.n ≤ l.i) × (l.n + count l.v (drop l.i l.s) ≡ count l.v l.s)
-
-abbrev pub decreases-loop-i : goal.decreases-loop-i
-decreases-loop-i l = length l.s - l.i
+abbrev pub invariant-loop-x : goal.invariant-loop-x
+invariant-loop-x l = (l.n ≡ count_by (λ x. x == l.v) (take l.x-index l.s)) × (l.n ≤ l.x-index)

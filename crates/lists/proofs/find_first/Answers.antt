@@ -1,19 +1,13 @@
--- The search from d on gives the whole answer; a turn looks at one entry.
-use borrow.Author.Rules.{rules}
-use mathlib.Core.Path.{refl}
-use Rattle.scope.specs.Words.{first_of}
-use Rattle.lists.proofs.Finding.{first-loop}
+-- Std's search, said in scope's words.
+use Rattle.std.proofs.Common.{nat_eq, rules, tests}
+use Rattle.std.proofs.lemmas.Iterator.{YieldsList-from_slice}
+use Rattle.std.proofs.lemmas.Iterator.Search.{position_from_yields_List}
+use Rattle.lists.proofs.Finding.{first_position}
 use Rattle.lists.proofs.find_first.Goals as goal
 
-pub loop-d-init : goal.loop-d-init
-unfolding first_of
-loop-d-init c = (search rules, refl)
-
-pub returns-then-s-d : goal.returns-then-s-d
-returns-then-s-d c = search (first-loop, rules)
-
-pub loop-d-preserved : goal.loop-d-preserved
-loop-d-preserved c = search (first-loop, rules)
-
 pub returns : goal.returns
-returns c = search (first-loop, rules)
+returns c =
+    let v = c.args.v in
+    let s = c.args.s.now in
+    first_position _ v s
+    (position_from_yields_List (λ x. nat_eq x v) _ _ _ c.position.ensures.ran (YieldsList-from_slice s cc) (λ x b q k. search (rules, tests)))

@@ -1,12 +1,13 @@
--- The search below k gives the whole answer; a turn looks at the entry under it.
-use Prim.Native.Nat.{◌≤◌}
-use mathlib.Core.Path.{◌≡◌}
-use lib.ListN.{length}
-use Rattle.scope.specs.Words.{highest, holds, latest_of}
+-- The search in the rest gives the whole answer, and so does the search below k.
+use Rattle.std.proofs.Common.{◌≡◌, ◌≤◌, length}
+use Rattle.scope.specs.Words.{latest_of, highest, holds}
 use Rattle.lists.proofs.find_last.Given as goal
 
-abbrev pub invariant-loop-k : goal.invariant-loop-k
-invariant-loop-k l = (l.k ≤ length l.s) × (highest l.k (holds l.s l.v) ≡ latest_of l.v l.s)
+abbrev pub invariant-loop-before : goal.invariant-loop-before
+invariant-loop-before l = (length l.rest ≤ length l.s) × (latest_of l.v l.rest ≡ latest_of l.v l.s)
 
-abbrev pub decreases-loop-k : goal.decreases-loop-k
-decreases-loop-k l = l.k
+abbrev pub decreases-loop-before : goal.decreases-loop-before
+decreases-loop-before l = length l.rest
+
+abbrev pub invariant-loop-k : goal.invariant-loop-k
+invariant-loop-k l = highest l.k (holds l.rest l.v) ≡ latest_of l.v l.s

@@ -1,15 +1,11 @@
--- Each return by its case; the loop's promise is the checker's, once codes 1 to 5 and 30 have passed.
+-- A job that is refused, and one that is replayed.
 use borrow.Author.Rules.{rules}
-use Rattle.replay.proofs.Laws.{check-job, check-odd, check-run}
+use Rattle.std.proofs.Common.{refl}
+use Rattle.replay.proofs.Laws.{check-job, check-run}
 use Rattle.replay.proofs.check.Goals as goal
 
-pub returns-then-code-ne0 : goal.returns-then-code-ne0
-returns-then-code-ne0 c = search (check-job, rules)
-
-pub returns-then-ops-ne0 : goal.returns-then-ops-ne0
-returns-then-ops-ne0 c = search (check-odd, rules)
+pub returns-in-Err : goal.returns-in-Err
+returns-in-Err c = check-job _ _ _ _ refl c.into.ensures c.in-Err.ensures
 
 pub returns : goal.returns
-returns c =
-    check-run _ _ _ _ _ _ _ _ _ c.job_code-code.ensures (search rules) _ _ _ _ (search rules)
-    c.from_fifo-made.ensures c.replay.ensures
+returns c = check-run _ _ c.run-outcome.new.self _ c.in_default.ensures c.run-outcome.ensures.due (search rules)

@@ -2,7 +2,5 @@
 use Rattle.lines.proofs.Laying.{and_then}
 use Rattle.tracing.proofs.show_list.Goals as goal
 
-pub returns : goal.returns
-returns c =
-    let mid = and_then c.put_job-head.ensures c.put_operations-mid.ensures in
-    and_then (and_then mid c.put_fault-end.ensures) c.put_verdict.ensures
+pub returns-clause-wrote : goal.returns-clause-wrote
+returns-clause-wrote c = and_then (and_then (and_then c.put_job.ensures.wrote c.put_operations.ensures.wrote) c.put_fault.ensures.wrote) c.put_verdict.ensures.wrote

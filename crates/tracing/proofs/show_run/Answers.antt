@@ -2,5 +2,5 @@
 use Rattle.lines.proofs.Laying.{and_then}
 use Rattle.tracing.proofs.show_run.Goals as goal
 
-pub returns : goal.returns
-returns c = and_then (and_then c.put_job-head.ensures c.put_operations-end.ensures) c.put_answer.ensures
+pub returns-clause-wrote : goal.returns-clause-wrote
+returns-clause-wrote c = and_then (and_then c.put_job.ensures.wrote c.put_operations.ensures.wrote) c.put_answer.ensures.wrote

@@ -1,7 +1,6 @@
 -- One text after the other.
-use borrow.Author.Rules.{rules}
 use Rattle.lines.proofs.Laying.{and_then}
 use Rattle.walks.proofs.put_walk.Goals as goal
 
-pub returns : goal.returns
-returns c = search (and_then, rules)
+pub returns-clause-wrote : goal.returns-clause-wrote
+returns-clause-wrote c = and_then c.put_start.ensures.wrote c.put_turns.ensures.wrote

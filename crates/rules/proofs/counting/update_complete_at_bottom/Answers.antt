@@ -1,22 +1,17 @@
--- The search from p on gives the whole answer; a turn tests one position.
-use borrow.Author.Rules.{rules}
-use native.Mathlib.Omega.{arith}
-use mathlib.Core.Path.{sym, ◌∙◌}
-use Rattle.scope.proofs.Walks.{lowest-again}
-use Rattle.rules.proofs.Completed.{counted-found, counted_none}
+-- The search's answer, or the end.
+use Rattle.std.proofs.Common.{◌∙◌, rules, tests, length}
+use Rattle.std.specs.Prelude.{min}
+use Rattle.scope.specs.Rules.{counting_stops}
+use Rattle.lists.proofs.Searching.{lowest_by_find}
+use Rattle.rules.proofs.Completed.{counts}
 use Rattle.rules.proofs.counting.update_complete_at_bottom.Goals as goal
 
-pub returns-then-counting_stops : goal.returns-then-counting_stops
-returns-then-counting_stops c =
-    counted-found _ _ _ _ c.loop-p.invariant.whole (omega arith) _ c.counting_stops.ensures c.if-counting_stops.true
-
-pub loop-p-preserved : goal.loop-p-preserved
-loop-p-preserved c = record {
-  ends = search rules;
-  from_complete = search rules;
-  to_end = omega arith;
-  whole = lowest-again _ _ _ _ (omega arith) (sym c.counting_stops.ensures ∙ c.if-counting_stops.false) c.loop-p.invariant.whole;
-}
-
 pub returns : goal.returns
-returns c = counted_none _ _ _ _ c.loop-p.invariant.whole (omega arith) (omega arith)
+returns c =
+    let v = c.args.view.now in
+    let end = min (length v.current.now) (length v.target.now) in
+    let found =
+    lowest_by_find _ _ _ _ v.complete end (counting_stops v.current.now v.target.now) c.find.ensures.ran (search rules) (search rules)
+    (λ x y q k. search (rules, tests))
+    in
+    (rw (c.max.ensures, c.end-end.ensures) at c.unwrap_or.ensures) ∙ counts v.current.now v.target.now v.complete c.find.result found

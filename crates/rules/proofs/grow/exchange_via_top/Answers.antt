@@ -1,24 +1,28 @@
 -- The search from p on gives the whole answer; a turn looks for one position's source.
-use borrow.Author.Rules.{rules}
-use native.Mathlib.Omega.{arith}
-use Rattle.rules.proofs.Swapping.{x-depth, x-swaps, x-again, x-pass}
+use Rattle.std.proofs.Common.{◌≡◌, None as none, Some as some, rules}
+use Rattle.questions.specs.Promises.{source_for}
+use Rattle.rules.proofs.Swapping.{x-swaps, x-again, x-pass}
 use Rattle.rules.proofs.grow.exchange_via_top.Goals as goal
 
-pub depth-down-requires : goal.depth-down-requires
-depth-down-requires c = search (x-depth, rules)
-
-pub returns-in-At : goal.returns-in-At
-returns-in-At c =
-    x-swaps _ _ _ _ _ c.loop-p.invariant.begins _ _ _ c.source_for-src.ensures c.in-At.is _ _ (omega arith) c.loop-p.invariant.whole
-    (search rules) (search rules)
+pub returns-in-Some : goal.returns-in-Some
+returns-in-Some c =
+    let v = c.args.view.now in
+    let f = c.floor-start.result.0 in
+    let source : source_for v.current.now v.target.now f c.loop-p.p ≡ some c.in-Some.q = search rules in
+    x-swaps v.current.now v.target.now v.complete v.config.max_swap_depth f (search rules) c.loop-p.p c.in-Some.q source
+    c.depth-down.result c.depth-back.result (search rules) c.loop-p.invariant (search rules) (search rules)
+    v.spilled.now v.config.max_dup_depth
 
 pub loop-p-preserved : goal.loop-p-preserved
-loop-p-preserved c = record {
-  ends = search rules;
-  begins = search rules;
-  within = search rules;
-  whole = x-again _ _ _ _ _ c.loop-p.invariant.whole (omega arith) c.source_for-src.ensures c.in_default.is;
-}
+loop-p-preserved c =
+    let v = c.args.view.now in
+    let f = c.floor-start.result.0 in
+    let lacks : source_for v.current.now v.target.now f c.loop-p.p ≡ none = search rules in
+    x-again v.current.now v.target.now f c.loop-p.p c.loop-p.invariant (search rules) lacks
 
 pub returns : goal.returns
-returns c = x-pass _ _ _ _ _ c.loop-p.invariant.begins _ c.loop-p.invariant.whole (omega arith)
+returns c =
+    let v = c.args.view.now in
+    let f = c.floor-start.result.0 in
+    x-pass v.current.now v.target.now v.complete v.config.max_swap_depth f (search rules) c.loop-p.p c.loop-p.invariant
+    (search rules) v.spilled.now v.config.max_dup_depth

@@ -1,14 +1,16 @@
 -- What is there first, then a push or a store.
-use borrow.Author.Rules.{rules}
+use Rattle.std.proofs.Common.{rules}
+use Rattle.rules.specs.Promises.{always}
 use Rattle.rules.proofs.Chains.{grow-settled, grow-pushed}
-use Rattle.rules.proofs.Fetching.{grow-none}
 use Rattle.rules.proofs.grow.grow_choice.Goals as goal
 
-pub returns-then-applies : goal.returns-then-applies
-returns-then-applies c = search (grow-settled, rules)
-
-pub returns-then-complete-current : goal.returns-then-complete-current
-returns-then-complete-current c = search (grow-pushed, rules)
+pub returns-in-Some : goal.returns-in-Some
+returns-in-Some c =
+    let v = c.args.view.now in
+    grow-settled v.current.now v.target.now v.spilled.now v.complete v.config.max_swap_depth v.config.max_dup_depth _ c.settle.ensures _ (search rules)
 
 pub returns : goal.returns
-returns c = search (grow-none, rules)
+returns c =
+    let v = c.args.view.now in
+    grow-pushed v.current.now v.target.now v.spilled.now v.complete v.config.max_swap_depth v.config.max_dup_depth _ c.settle.ensures
+    (always c.push_or_store.result) (search rules) c.push_or_store.ensures

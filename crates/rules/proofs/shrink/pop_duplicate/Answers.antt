@@ -1,10 +1,7 @@
 -- The test decides whether the top goes.
-use borrow.Author.Rules.{rules}
-use Rattle.rules.proofs.Popping.{e-pop, e-pass}
+use Rattle.std.proofs.Common.{rules}
+use Rattle.rules.proofs.Popping.{e-pop}
 use Rattle.rules.proofs.shrink.pop_duplicate.Goals as goal
 
-pub returns-then-is_duplicate : goal.returns-then-is_duplicate
-returns-then-is_duplicate c = search (e-pop, rules)
-
 pub returns : goal.returns
-returns c = search (e-pass, rules)
+returns c = search (e-pop, rules)

@@ -1,22 +1,34 @@
--- The search from p on gives the whole answer; a turn tests one position.
-use borrow.Author.Rules.{rules}
-use native.Mathlib.Omega.{arith}
-use mathlib.Core.Path.{sym, ◌∙◌}
-use Rattle.scope.proofs.Walks.{lowest-found, lowest-again, lowest-out}
+-- The search tests which position wants the top.
+use Rattle.std.proofs.Common.{◌-◌, ◌≡◌, ◌∙◌, sym, length, None as none, Some as some, rules, tests}
+use Rattle.std.specs.Prelude.{min, max}
+use Rattle.scope.specs.Rules.{wants_top}
+use Rattle.lists.proofs.Searching.{lowest_by_find}
 use Rattle.rules.proofs.Swapping.{b-swap, b-pass}
 use Rattle.rules.proofs.shrink.swap_to_correct_position.Goals as goal
 
-pub returns-then-wants_top : goal.returns-then-wants_top
-returns-then-wants_top c =
-    b-swap _ _ _ _ _ c.top-value.ensures _ _
-    (lowest-found _ _ _ _ (omega arith) (sym c.wants_top.ensures ∙ c.if-wants_top.true) c.loop-p.invariant.whole) (search rules)
-
-pub loop-p-preserved : goal.loop-p-preserved
-loop-p-preserved c = record {
-  ends = search rules;
-  within = search rules;
-  whole = lowest-again _ _ _ _ (omega arith) (sym c.wants_top.ensures ∙ c.if-wants_top.false) c.loop-p.invariant.whole;
-}
+pub returns-in_err-p : goal.returns-in_err-p
+returns-in_err-p c =
+    let v = c.args.view.now in
+    let C = v.current.now in
+    let T = v.target.now in
+    let S = v.config.max_swap_depth in
+    let searched =
+    lowest_by_find _ _ _ _ (max v.complete (length C - 1 - S)) (min (length C) (length T)) (wants_top C T c.top-top.result)
+    c.find.ensures.ran (search rules) (search rules) (λ x y q k. search (rules, tests))
+    in
+    let out : c.find.result ≡ none = search rules in
+    let gone : c.from_residual.result ≡ none = search rules in
+    rw gone (b-pass C T v.complete S c.top-top.result c.top-top.ensures (sym searched ∙ out))
 
 pub returns : goal.returns
-returns c = b-pass _ _ _ _ _ c.top-value.ensures (lowest-out _ _ _ _ (omega arith) c.loop-p.invariant.whole)
+returns c =
+    let v = c.args.view.now in
+    let C = v.current.now in
+    let T = v.target.now in
+    let S = v.config.max_swap_depth in
+    let searched =
+    lowest_by_find _ _ _ _ (max v.complete (length C - 1 - S)) (min (length C) (length T)) (wants_top C T c.top-top.result)
+    c.find.ensures.ran (search rules) (search rules) (λ x y q k. search (rules, tests))
+    in
+    let at : c.find.result ≡ some c.in_ok-p.p = search rules in
+    b-swap C T v.complete S c.top-top.result c.top-top.ensures c.in_ok-p.p c.depth.result (sym searched ∙ at) (search rules)

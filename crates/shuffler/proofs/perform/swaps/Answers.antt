@@ -1,10 +1,7 @@
 -- The first swap of the plan, and the second after it where the first was done.
-use borrow.Author.Rules.{rules}
-use Rattle.shuffler.proofs.Performing.{swaps-stop, swaps-go}
+use Rattle.std.proofs.Common.{refl}
+use Rattle.shuffler.proofs.Performing.{swaps_goes}
 use Rattle.shuffler.proofs.perform.swaps.Goals as goal
 
-pub returns-then-m-ne0 : goal.returns-then-m-ne0
-returns-then-m-ne0 c = search (swaps-stop, rules)
-
-pub returns : goal.returns
-returns c = swaps-go _ _ _ _ _ _ _ _ c.swap-m.ensures _ _ _ _ _ c.if-m-ne0.false c.swap.ensures
+pub returns-clause-held : goal.returns-clause-held
+returns-clause-held c = λ n. swaps_goes _ _ _ _ (c.in_ok-swap.ensures.held n) _ _ _ refl (c.swap-2.ensures.held n)

@@ -1,7 +1,6 @@
 -- One text after the other.
-use borrow.Author.Rules.{rules}
 use Rattle.lines.proofs.Laying.{and_then}
 use Rattle.tracing.proofs.ends.put_answer.Goals as goal
 
-pub returns : goal.returns
-returns c = search (and_then, rules)
+pub returns-clause-wrote : goal.returns-clause-wrote
+returns-clause-wrote c = and_then c.put_answer_line.ensures.wrote c.put_refusal.ensures.wrote

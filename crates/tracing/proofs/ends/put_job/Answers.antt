@@ -2,7 +2,5 @@
 use Rattle.lines.proofs.Laying.{some-laid, and_then}
 use Rattle.tracing.proofs.ends.put_job.Goals as goal
 
-pub returns : goal.returns
-returns c =
-    let b = and_then c.put_limits-a.ensures (some-laid c.put_list-b.ensures) in
-    and_then (and_then b c.put_spilled-c.ensures) (some-laid c.put_list.ensures)
+pub returns-clause-wrote : goal.returns-clause-wrote
+returns-clause-wrote c = and_then (and_then (and_then c.put_limits.ensures.wrote (some-laid c.put_list.ensures.lays)) c.put_spilled.ensures.wrote) (some-laid c.put_list-2.ensures.lays)

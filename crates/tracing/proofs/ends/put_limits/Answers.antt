@@ -1,8 +1,7 @@
 -- One text after the other.
-use Rattle.lines.proofs.Laying.{some-laid, and_then}
+use Rattle.printing.proofs.Laying.{then}
+use Rattle.lines.proofs.Laying.{some-laid}
 use Rattle.tracing.proofs.ends.put_limits.Goals as goal
 
-pub returns : goal.returns
-returns c =
-    let b = and_then (some-laid c.put_label-a.ensures) (some-laid c.put_label-b.ensures) in
-    and_then (and_then b (some-laid c.put_label-c.ensures)) (some-laid c.put.ensures)
+pub returns-clause-wrote : goal.returns-clause-wrote
+returns-clause-wrote c = some-laid (then (then (then c.label.ensures.lays c.label-2.ensures.lays) c.label-3.ensures.lays) c.put.ensures.lays)

@@ -1,6 +1,7 @@
 -- One text after the other.
-use Rattle.lines.proofs.Laying.{some-laid, and_then}
+use Rattle.printing.proofs.Laying.{then}
+use Rattle.lines.proofs.Laying.{some-laid}
 use Rattle.tracing.proofs.ends.put_spilled.Goals as goal
 
-pub returns : goal.returns
-returns c = and_then (and_then (some-laid c.put-from.ensures) (some-laid c.put_slots-end.ensures)) (some-laid c.put.ensures)
+pub returns-clause-wrote : goal.returns-clause-wrote
+returns-clause-wrote c = some-laid (then (then c.put.ensures.lays c.put_slots.ensures.lays) c.put-2.ensures.lays)

@@ -1,7 +1,0 @@
--- One text after the other.
-use borrow.Author.Rules.{rules}
-use Rattle.lines.proofs.Laying.{then}
-use Rattle.lines.proofs.put_named.Goals as goal
-
-pub returns : goal.returns
-returns c = search (then, rules)
