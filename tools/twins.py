@@ -22,8 +22,8 @@ def functions(text):
         start = re.compile(r"\{\n").search(text, found.end())
         own = re.compile(rf"^{indent}\{{\n", re.M).search(text, found.end())
         end = re.compile(rf"^{indent}\}}", re.M).search(text, found.end())
-        if not start or not end:
-            continue
+        if not start or not end or ";\n" in text[found.end() : start.start()]:
+            continue  # a function of a trait, without a body
         at = own.end() if own and own.end() < end.start() else start.end()
         yield found[2], text[at : end.start()]
 

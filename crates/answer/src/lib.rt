@@ -1,4 +1,4 @@
-// The lines that answer a job, as bytes in a lent buffer.
+//! The lines that answer a job, as bytes in a lent buffer.
 #![tactic(auto)]
 
 ghost use Rattle.std.specs.Prelude.{◌≡◌, ◌*◌, ◌≤◌, List, length, IfSome, Some};
@@ -29,7 +29,7 @@ pub enum Unwritten {
     NoOperations,
 }
 
-// What the operations of a list of words come to: the bytes of their lines, and their gas.
+/// What the operations of a list of words come to: the bytes of their lines, and their gas.
 #[derive(Clone, Copy)]
 struct Measured {
     len: usize,
@@ -51,7 +51,7 @@ pub fn read_op(kind: u32, argument: u32) -> Option<Op>
     }
 }
 
-// The bytes and the gas of the operations that words say; none where one record says none, or a word is left over.
+/// The bytes and the gas of the operations that words say; none where one record says none, or a word is left over.
 fn measure(words: &[u32]) -> Option<Measured>
     requires { length words.now ≤ 8192 }
     ensures all { result ≡ measured (ops_in words.now) }
@@ -70,7 +70,7 @@ fn measure(words: &[u32]) -> Option<Measured>
     Some(Measured { len, gas })
 }
 
-// The first line of an answer.
+/// The first line of an answer.
 fn put_first(text: &mut Text<'_>, answer: Answer, ops: u64, gas: u64)
     ensures lays { Lays text.old.out.now text.old.len (first_line answer ops gas) text.new.out.now text.new.len }
     ensures same { text.new.out.ghost_name ≡ text.old.out.ghost_name }
@@ -84,7 +84,7 @@ fn put_first(text: &mut Text<'_>, answer: Answer, ops: u64, gas: u64)
     text.put(b"\n");
 }
 
-// A line for each operation that the words say.
+/// A line for each operation that the words say.
 fn put_lines(text: &mut Text<'_>, words: &[u32])
     ensures lays { (os : List Op) → ops_in words.now ≡ Some os
         → Lays text.old.out.now text.old.len (op_lines os) text.new.out.now text.new.len }

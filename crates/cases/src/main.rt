@@ -1,4 +1,4 @@
-// Puts stored jobs to the driver's work, one after the other, and writes each one's name and the lines that answer it.
+//! Puts stored jobs to the driver's work, one after the other, and writes each one's name and the lines that answer it.
 #![tactic(auto)]
 
 use driving::answer_job;
@@ -7,13 +7,13 @@ use std::io::{self, Write};
 use std::process::ExitCode;
 use std::rt::Files;
 
-// The runs worked by hand, A to L, and N both ways.
+/// The runs worked by hand, A to L, and N both ways.
 const TABLE: [&str; 14] = [
     "a.job", "b.job", "c.job", "d.job", "e.job", "f.job", "g.job", "h.job", "i.job", "j.job",
     "k.job", "l.job", "n.job", "n2.job",
 ];
 
-// Each other code that a shuffle gives the driver, 1 to 5, 10 and 11, and the jobs next to 4 and 5 that pass.
+/// Each other code that a shuffle gives the driver, 1 to 5, 10 and 11, and the jobs next to 4 and 5 that pass.
 const CODES: [&str; 9] = [
     "code1.job",
     "code2.job",
@@ -26,7 +26,7 @@ const CODES: [&str; 9] = [
     "code11.job",
 ];
 
-// Bytes that are no job, each for one reason: too short, an offset, a sum that would wrap, a length, a limit; and jobs next to them.
+/// Bytes that are no job, each for one reason: too short, an offset, a sum that would wrap, a length, a limit; and jobs next to them.
 const NO_JOBS: [&str; 21] = [
     "empty.job",
     "short35.job",
@@ -51,7 +51,7 @@ const NO_JOBS: [&str; 21] = [
     "d256.job",
 ];
 
-// One stored job: its name, then its answer. One byte more than a job may have is read, as the driver does.
+/// One stored job: its name, then its answer. One byte more than a job may have is read, as the driver does.
 fn one<R: Files + Eprint>(
     out: &mut impl Write,
     inputs: &mut Inputs<'_, R>,

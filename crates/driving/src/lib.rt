@@ -1,4 +1,4 @@
-// The driver's work, on slices: a job's bytes in, the lines of its answer out.
+//! The driver's work, on slices: a job's bytes in, the lines of its answer out.
 #![tactic(auto)]
 
 ghost use Rattle.std.specs.Prelude.{◌≡◌};

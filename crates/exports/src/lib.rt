@@ -74,6 +74,7 @@ pub extern "C" fn njallavet_shuffle(
         ≡ shuffle_due (lent_plain start.now spill.old filled first target.now (limits max_swap_depth max_dup_depth) ops.old) }
 {
     let config = without_exchange(max_swap_depth, max_dup_depth);
+    // filled in place: the end stack is 4 KB
     let mut answer = Answer {
         code: 0,
         shrink_ticks: 0,

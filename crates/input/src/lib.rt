@@ -1,4 +1,4 @@
-// What the programs read: bytes until a buffer is full, and files by name; one that cannot be opened is named on standard error.
+//! What the programs read: bytes until a buffer is full, and files by name; one that cannot be opened is named on standard error.
 #![tactic(auto)]
 
 ghost use Rattle.std.specs.Prelude.{◌≡◌, ◌<◌, ◌≤◌, true, false, length, take, IfOk, IfNone};
@@ -77,7 +77,7 @@ impl<'a, R: Files + Eprint> Inputs<'a, R> {
     }
 }
 
-// A text up to where a mark begins in it, all of it where there is none.
+/// A text up to where a mark begins in it, all of it where there is none.
 fn before<'a>(text: &'a str, mark: &str) -> &'a str {
     text.split_once(mark).map_or(text, |(front, _)| front)
 }

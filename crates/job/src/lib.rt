@@ -1,7 +1,7 @@
-// The driver's job, read from its bytes into lent words.
+//! The driver's job, read from its bytes into lent words.
 #![tactic(auto)]
 
-ghost use Rattle.std.specs.Prelude.{◌≡◌, ◌+◌, ◌*◌, ◌≤◌, length, replicate};
+ghost use Rattle.std.specs.Prelude.{◌≡◌, ◌+◌, ◌*◌, ◌≤◌, length, replicate, IfOk};
 ghost use Rattle.scope.specs.Machine.{over};
 ghost use Rattle.scope.specs.JobFile.{word_at, words_at, is_job, parsed};
 ghost use Rattle.job.specs.Promises.{read_into, read_of};
@@ -28,7 +28,7 @@ pub struct Job {
 }
 
 impl JobWords {
-    /// Zeros.
+    /// Three lists of zeros.
     pub const fn new() -> Self
         ensures start { result.start ≡ replicate 4096 0 }
         ensures spilled { result.spilled ≡ replicate 4096 0 }
@@ -42,7 +42,7 @@ impl JobWords {
     }
 }
 
-// The word whose lowest byte stands at a place.
+/// The word whose lowest byte stands at a place.
 fn word_at(bytes: &[u8], at: usize) -> u32
     requires { at + 4 ≤ length bytes.now }
     ensures { result ≡ word_at bytes.now at }
@@ -50,7 +50,7 @@ fn word_at(bytes: &[u8], at: usize) -> u32
     u32::from_le_bytes([bytes[at], bytes[at + 1], bytes[at + 2], bytes[at + 3]])
 }
 
-// So many words from a place on, into a buffer that has room for them.
+/// So many words from a place on, into a buffer that has room for them.
 fn read_words(bytes: &[u8], at: usize, count: usize, words: &mut [u32])
     requires { (at + 4 * count ≤ length bytes.now) × (count ≤ length words.old) }
     ensures { words.new ≡ over (words_at bytes.now at count) words.old }
@@ -83,7 +83,8 @@ pub fn is_job(bytes: &[u8]) -> bool
 /// The job that the bytes are, its lists at the low ends of the three arrays. `Err(Job)` where they are none, and the arrays as they were.
 #[tactic(auto, unfolding(scope::specs::JobFile::is_job, scope::specs::JobFile::parsed))]
 pub fn read_job(bytes: &[u8], lists: &mut JobWords) -> Result<Job, Refusal>
-    ensures { read_of result lists.new ≡ read_into (parsed bytes.now) lists.old.start lists.old.spilled lists.old.target }
+    ensures read { read_of result lists.new ≡ read_into (parsed bytes.now) lists.old.start lists.old.spilled lists.old.target }
+    ensures no_exchange { IfOk result (λ job. (job.config.max_exchange_range ≡ 0) × (job.config.exchange_cost ≡ 0)) }
 {
     if !is_job(bytes) {
         return Err(Refusal::Job);

@@ -1,4 +1,4 @@
-// Making a tracked state, copying one, and what can be asked of one without changing it. The spill buffer is 70 71 72.
+//! Making a tracked state, copying one, and what can be asked of one without changing it. The spill buffer is 70 71 72.
 use super::show::{asked_of, code, count_up, found, list, made, state_of};
 use std::io::{self, Write};
 use tracked_state::TrackedState;

@@ -1,4 +1,4 @@
-// The settings of a schedule, and the operations just within and just beyond them.
+//! The settings of a schedule, and the operations just within and just beyond them.
 use super::show::{code, yes_or_no};
 use operations::{ScheduleConfig, is_valid};
 use scope::StackOps;

@@ -1,4 +1,4 @@
-// What a trial starts from, and how its answer is written.
+//! What a trial starts from, and how its answer is written.
 use scope::{Refusal, Step};
 use stack::EvmStack;
 use std::fmt::Display;

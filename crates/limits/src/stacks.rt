@@ -1,4 +1,4 @@
-// The stack by itself: heights 0, 1, 1,023 and 1,024, length fields above, depths on both sides of the bottom.
+//! The stack by itself: heights 0, 1, 1,023 and 1,024, length fields above, depths on both sides of the bottom.
 use super::show::{code, count_up, found, list, stack_after, stack_of, yes_or_no};
 use scope::Refusal;
 use stack::EvmStack;

@@ -1,4 +1,4 @@
-// The operations of a tracked state. Lent are the three slots 70 71 72 and five words, all 9: room for two operations, and one word over.
+//! The operations of a tracked state. Lent are the three slots 70 71 72 and five words, all 9: room for two operations, and one word over.
 use super::show::{asked_of, buffers, state_after, state_of, step};
 use scope::Step;
 use std::io::{self, Write};

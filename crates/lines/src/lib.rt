@@ -1,8 +1,7 @@
-// The parts of a trace as text. Each call adds its part at the text's end, as far as the buffer goes.
+//! The parts of a trace as text. Each call adds its part at the text's end, as far as the buffer goes.
 #![tactic(auto)]
 
-ghost use Rattle.std.specs.Prelude.{◌≡◌, ◌-◌, ◌≤◌, ◌++◌};
-ghost use Rattle.scope.specs.Stack.{decimal};
+ghost use Rattle.std.specs.Prelude.{◌≡◌, ◌-◌};
 ghost use Rattle.printing.specs.Promises.{Lays};
 ghost use Rattle.lines.specs.Promises.{blanks, column, no_operation, spelled, rest_of, values_text, front_of, slot_number};
 ghost use Rattle.lines.specs.Promises.{slot_text, slots_text, operation_column, turn_text, state_text, list_text};
@@ -16,7 +15,7 @@ const VALUES: usize = 17;
 /// How many slots are shown, the latest ones.
 const SLOTS: usize = 8;
 
-// Blanks, eighteen at most.
+/// Blanks, eighteen at most.
 fn put_blanks(text: &mut Text, n: usize)
     ensures lays { Lays text.old.out.now text.old.len (blanks n) text.new.out.now text.new.len }
     ensures same { text.new.out.ghost_name ≡ text.old.out.ghost_name }
@@ -24,7 +23,7 @@ fn put_blanks(text: &mut Text, n: usize)
     text.put(&[b' '; 18][..n.min(18)]);
 }
 
-// Blanks up to a width, after what stands from a place on.
+/// Blanks up to a width, after what stands from a place on.
 fn pad(text: &mut Text, from: usize, width: usize)
     ensures lays { Lays text.old.out.now text.old.len (blanks (width - (text.old.len - from))) text.new.out.now text.new.len }
     ensures same { text.new.out.ghost_name ≡ text.old.out.ghost_name }
@@ -42,7 +41,7 @@ pub fn put_column(text: &mut Text, n: u64, width: usize)
     pad(text, from, width);
 }
 
-// Two words that are no operation.
+/// Two words that are no operation.
 fn put_unknown(text: &mut Text, item: Record)
     ensures lays { Lays text.old.out.now text.old.len (no_operation item.kind item.argument) text.new.out.now text.new.len }
     ensures same { text.new.out.ghost_name ≡ text.old.out.ghost_name }
@@ -78,7 +77,7 @@ pub fn put_operation_column(text: &mut Text, item: Record)
     pad(text, from, 18);
 }
 
-// What follows the values that are shown of so many.
+/// What follows the values that are shown of so many.
 fn put_rest(text: &mut Text, n: usize)
     ensures lays { Lays text.old.out.now text.old.len (rest_of n) text.new.out.now text.new.len }
     ensures same { text.new.out.ghost_name ≡ text.old.out.ghost_name }
@@ -103,7 +102,7 @@ pub fn put_values(text: &mut Text, values: &[u32])
     put_rest(text, values.len());
 }
 
-// What stands before the slots that are shown of so many.
+/// What stands before the slots that are shown of so many.
 fn put_front(text: &mut Text, n: usize)
     ensures lays { Lays text.old.out.now text.old.len (front_of n) text.new.out.now text.new.len }
     ensures same { text.new.out.ghost_name ≡ text.old.out.ghost_name }
@@ -115,14 +114,14 @@ fn put_front(text: &mut Text, n: usize)
     }
 }
 
-// The number of a slot by its place, as far as 64 bits hold it.
+/// The number of a slot by its place, as far as 64 bits hold it.
 fn slot_number(first: u32, i: usize) -> u64
     ensures { result ≡ slot_number first i }
 {
     u64::from(first).saturating_add(i as u64)
 }
 
-// A slot's number and what it holds.
+/// A slot's number and what it holds.
 fn put_slot(text: &mut Text, first: u32, i: usize, value: u32)
     ensures lays { Lays text.old.out.now text.old.len (slot_text first i value) text.new.out.now text.new.len }
     ensures same { text.new.out.ghost_name ≡ text.old.out.ghost_name }

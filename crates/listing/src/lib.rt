@@ -1,4 +1,4 @@
-// A list of operations as text, in the driver's printed form, read into operation words.
+//! A list of operations as text, in the driver's printed form, read into operation words.
 #![tactic(auto)]
 
 ghost use Rattle.std.specs.Prelude.{◌≡◌, ◌<◌, IfSome};
@@ -26,14 +26,14 @@ pub struct ListError {
     pub ops: usize,
 }
 
-// The number that the digits of a line are; nothing where a `u32` does not hold it.
+/// The number that the digits of a line are; nothing where a `u32` does not hold it.
 fn number_in(line: &[u8]) -> Option<u32> {
     line.iter()
         .filter_map(|byte| char::from(*byte).to_digit(10))
         .try_fold(0u32, |n, digit| n.checked_mul(10)?.checked_add(digit))
 }
 
-// The kind of the operation whose form begins as a line does.
+/// The kind of the operation whose form begins as a line does.
 fn kind_in(line: &[u8]) -> Option<u32>
     ensures { IfSome result (λ kind. 0 < kind) }
 {
@@ -68,12 +68,12 @@ pub fn read_line(line: &[u8]) -> Option<Record>
     None
 }
 
-// Whether a line is passed over: an empty one, and the driver's own first line, "answer ..".
+/// Whether a line is passed over: an empty one, and the driver's own first line, "answer ..".
 fn is_passed_over(line: &[u8], index: usize) -> bool {
     line.is_empty() || index == 0 && line.starts_with(b"answer ")
 }
 
-// Stores an operation's words after so many operations.
+/// Stores an operation's words after so many operations.
 fn store(words: &mut [u32], ops: usize, item: Record) -> Result<(), Unlisted>
     ensures { Stored ops item result words.old words.new }
 {
@@ -85,7 +85,7 @@ fn store(words: &mut [u32], ops: usize, item: Record) -> Result<(), Unlisted>
     Ok(())
 }
 
-// Takes one line, after so many operations; how many there are then.
+/// Takes one line, after so many operations; how many there are then.
 fn take_line(words: &mut [u32], ops: usize, line: &[u8]) -> Result<usize, Unlisted>
     ensures { Takes ops (taken ops result) words.old words.new }
 {

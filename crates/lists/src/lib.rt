@@ -1,4 +1,4 @@
-//! Walks over a slice. Every function here answers for every input.
+//! Walks over a slice. Every public function answers for every input.
 #![tactic(auto)]
 
 ghost use Rattle.std.specs.Prelude.{◌≡◌, ◌≤◌, length};

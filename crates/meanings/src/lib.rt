@@ -1,4 +1,4 @@
-// Document 01's codes by their names, and what each one means.
+//! Document 01's codes by their names, and what each one means.
 #![tactic(auto)]
 
 ghost use Rattle.std.specs.Prelude.{◌≡◌};
@@ -6,7 +6,7 @@ ghost use Rattle.lines.specs.Promises.{Wrote};
 
 use printing::Text;
 
-// The shuffle's codes, 1 to 13, and the checker's own, 30 to 41.
+/// The shuffle's codes, 1 to 13, and the checker's own, 30 to 41.
 fn meaning(code: u32) -> &'static str {
     match code {
         1 => "LIMIT: the swap limit is 0",

@@ -1,4 +1,4 @@
-// What a schedule may have: the settings and their limits.
+//! What a schedule may have: the settings and their limits.
 #![tactic(auto)]
 
 ghost use Rattle.std.specs.Prelude.{◌≡◌, IfOk};

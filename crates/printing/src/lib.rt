@@ -1,7 +1,7 @@
-// The printed form of an operation, and of the numbers in it, as bytes in a lent buffer.
+//! The printed form of an operation, and of the numbers in it, as bytes in a lent buffer.
 #![tactic(auto)]
 
-ghost use Rattle.std.specs.Prelude.{◌≡◌, ◌∷◌, [], ◌++◌, ◌+◌, ◌≤◌, length, leb};
+ghost use Rattle.std.specs.Prelude.{◌≡◌, ◌++◌, ◌+◌, ◌≤◌, length, leb};
 ghost use Rattle.scope.specs.Stack.{decimal, printed};
 ghost use Rattle.printing.specs.Promises.{Lays};
 

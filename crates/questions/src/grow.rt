@@ -1,4 +1,4 @@
-// What (x), (u), (v) and (w) ask.
+//! What (x), (u), (v) and (w) ask.
 ghost use Rattle.std.specs.Prelude.{◌≡◌};
 ghost use Rattle.scope.specs.Rules as R;
 ghost use Rattle.questions.specs.Promises as K;

@@ -1,5 +1,5 @@
-//! What the step rules ask of the current stack and the target. Every answer is scope's definition of the same name; every function
-//! answers for every input. The stacks are slices, top first.
+//! What the step rules ask of the current stack and the target. Each answer is a definition of scope's `Rules`, or one of `Promises` over it;
+//! every function answers for every input. The stacks are slices, top first.
 #![tactic(auto)]
 
 ghost use Rattle.std.specs.Prelude.{◌≡◌, ◌-◌, max, min, get_or, length};
@@ -25,6 +25,14 @@ pub struct View<'a> {
     pub config: ScheduleConfig,
 }
 
+/// The lowest position of a stack of that height that is not completed and that a swap reaches.
+pub fn floor(height: usize, complete: usize, swaps: u8) -> FromBottom
+    ensures { result.0 ≡ max complete (height - 1 - swaps) }
+{
+    let reach = FromTop(usize::from(swaps)).to_position(height);
+    FromBottom(complete.max(reach.0))
+}
+
 impl View<'_> {
     /// The top; 0 where there is none.
     pub fn top(&self) -> u32
@@ -40,14 +48,15 @@ impl View<'_> {
         self.current.len().min(self.target.len())
     }
 
-    /// The lowest position that is not completed and that a swap reaches.
+    /// The floor of the current stack.
     pub fn floor(&self) -> FromBottom
         ensures { result.0 ≡ max self.now.complete (length self.now.current.now - 1 - self.now.config.max_swap_depth) }
     {
-        let reach = FromTop(usize::from(self.config.max_swap_depth)).to_position(
+        floor(
             self.current.len(),
-        );
-        FromBottom(self.complete.max(reach.0))
+            self.complete,
+            self.config.max_swap_depth,
+        )
     }
 
     /// Whether the two stacks differ at a position.

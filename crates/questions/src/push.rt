@@ -1,4 +1,4 @@
-// The push test: may the stack grow by one value, or would that bury one that is still needed?
+//! The push test: may the stack grow by one value, or would that bury one that is still needed?
 ghost use Rattle.std.specs.Prelude.{◌≡◌};
 ghost use Rattle.scope.specs.Words.{latest_of, found};
 ghost use Rattle.scope.specs.Rules as R;

@@ -1,4 +1,4 @@
-// What (a) to (e) ask.
+//! What (a) to (e) ask.
 ghost use Rattle.std.specs.Prelude.{◌≡◌, leb};
 ghost use Rattle.scope.specs.Words.{count, ◌from◌};
 ghost use Rattle.scope.specs.Rules as R;

@@ -1,8 +1,8 @@
-// A reader over operation words: it keeps the slice and its place. A word that is not there reads as 0.
+//! A reader over operation words: it keeps the slice and its place. A word that is not there reads as 0.
 #![tactic(auto)]
 
 ghost use Rattle.std.specs.Prelude.{◌≡◌};
-ghost use Rattle.reader.specs.Promises.{record_at, left};
+ghost use Rattle.reader.specs.Promises.{record_at};
 
 /// An operation's two words.
 #[derive(Clone, Copy, Debug, PartialEq, Eq, Default)]

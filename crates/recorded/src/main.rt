@@ -1,4 +1,4 @@
-// Puts the recorded jobs to the driver's work and compares every line that it writes with what the original Rust answered.
+//! Puts the recorded jobs to the driver's work and compares every line that it writes with what the original Rust answered.
 #![tactic(auto)]
 
 use compare::Outcome;
@@ -25,14 +25,14 @@ const CLASSES: [&str; 12] = [
     "driver-limits",
 ];
 
-// What came of the classes so far: their jobs, and how many were answered otherwise than recorded.
+/// What came of the classes so far: their jobs, and how many were answered otherwise than recorded.
 #[derive(Clone, Copy, Default)]
 struct Tally {
     jobs: u32,
     differ: u32,
 }
 
-// The codes that came, each with how often.
+/// The codes that came, each with how often.
 fn show_codes(out: &mut impl Write, codes: &[u32]) -> io::Result<()> {
     for (code, count) in codes.iter().enumerate() {
         if 0 < *count {
@@ -42,14 +42,14 @@ fn show_codes(out: &mut impl Write, codes: &[u32]) -> io::Result<()> {
     Ok(())
 }
 
-// The next four bytes of a file as a number; what the file does not have is 0.
+/// The next four bytes of a file as a number; what the file does not have is 0.
 fn next_word(file: &mut impl Read) -> io::Result<u32> {
     let mut four = [0; 4];
     read_full(file, &mut four)?;
     Ok(u32::from_le_bytes(four))
 }
 
-// The next record of a file, put to the driver's work. One that is longer than its room differs.
+/// The next record of a file, put to the driver's work. One that is longer than its room differs.
 fn next_record(
     file: &mut impl Read,
     bytes: &mut [u8],
@@ -67,7 +67,7 @@ fn next_record(
     Ok(compare::put_to(&bytes[..n], job, lines))
 }
 
-// So many records of a file; how many differ. The first twenty of them are named.
+/// So many records of a file; how many differ. The first twenty of them are named.
 fn records(
     out: &mut impl Write,
     file: &mut impl Read,
@@ -95,7 +95,7 @@ fn records(
     Ok(differ)
 }
 
-// One class: a line with its jobs, the codes recorded and how many jobs differ. A file that is not there differs.
+/// One class: a line with its jobs, the codes recorded and how many jobs differ. A file that is not there differs.
 fn class<R: Files + Eprint>(
     out: &mut impl Write,
     inputs: &mut Inputs<'_, R>,

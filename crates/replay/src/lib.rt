@@ -1,4 +1,4 @@
-// The replay checker: a list of operation words, from anywhere, is replayed on a start stack; the first fault is the verdict.
+//! The replay checker: a list of operation words, from anywhere, is replayed on a start stack; the first fault is the verdict.
 #![tactic(auto)]
 
 ghost use Rattle.std.specs.Prelude.{◌≡◌, ◌≤◌, length, IfOk, nat_lt, if◌then◌else◌, Some as some, None as none};

@@ -1,4 +1,4 @@
-// Counting: how many positions from the bottom need no more work.
+//! Counting: how many positions from the bottom need no more work.
 ghost use Rattle.std.specs.Prelude.{◌≡◌};
 ghost use Rattle.scope.specs.Rules as R;
 ghost use Rattle.rules.specs.Promises as K;

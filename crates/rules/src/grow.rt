@@ -1,4 +1,4 @@
-// Grow: (x), (u), (v), (w), and the order in which a tick of grow tries the rules.
+//! Grow: (x), (u), (v), (w), and the order in which a tick of grow tries the rules.
 ghost use Rattle.std.specs.Prelude.{List, ℕ, Ok};
 ghost use Rattle.scope.specs.Rules as R;
 ghost use Rattle.rules.specs.Promises as K;

@@ -1,4 +1,4 @@
-// Shrink: (a) to (f), and the order in which a tick of shrink tries them.
+//! Shrink: (a) to (f), and the order in which a tick of shrink tries them.
 ghost use Rattle.std.specs.Prelude.{List, ℕ, Ok, Some};
 ghost use Rattle.scope.specs.Rules as R;
 ghost use Rattle.rules.specs.Promises as K;
@@ -30,7 +30,7 @@ pub(crate) fn pop_extra(view: &View) -> Option<Choice>
     view.is_extra(view.top()).then_some(Choice::Pop)
 }
 
-/// (d) Swaps the lowest value from the floor that is extra with the top and pops it. The position moves on past every value looked at.
+/// (d) Swaps the lowest value from the floor that is extra with the top and pops it.
 fn swap_and_pop_extra(view: &View) -> Option<Choice>
     ensures { (L : List ℕ) (D : ℕ) → K.Picks 0 view.now L view.now.config.max_swap_depth D R.rule_d (Ok result) }
 {

@@ -7,7 +7,7 @@ ghost use Rattle.scope.specs.Codes.{code};
 ghost use Rattle.scope.specs.Shuffle.{job_code};
 ghost use Rattle.scope.specs.Once.{shuffle_due};
 ghost use Rattle.tracked_state.specs.Promises.{tracked_of};
-ghost use Rattle.shuffler.specs.Promises.{seen_in, answer_in, stopped_by, lent_plain, lent_state, state_due, KeptIfRefused, Refuses};
+ghost use Rattle.shuffler.specs.Promises.{seen_in, answer_in, stopped_by, lent_plain, lent_state, state_due, KeptIfRefused};
 
 use operations::ScheduleConfig;
 use scope::Refusal;

@@ -1,4 +1,4 @@
-// 002's EvmStack: 1,024 words, the top at index 1024 - len. A length above 1,024 is read as 1,024: every value of the type is a stack.
+//! 002's EvmStack: 1,024 words, the top at index 1024 - len. A length above 1,024 is read as 1,024: every value of the type is a stack.
 #![tactic(auto, unfolding(scope::specs::Stack::fifo))]
 
 ghost use Rattle.std.specs.Prelude.{◌≡◌, ◌≤◌, ◌<◌, ◌↔◌, min, length, IfOk, IsOk};
@@ -72,6 +72,7 @@ impl EvmStack {
         Ok(())
     }
 
+    /// How many values there are, 1,024 at most.
     fn height(&self) -> usize
         ensures value { result ≡ length (values_in self.now) }
         ensures within { result ≤ 1024 }

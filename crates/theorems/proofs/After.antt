@@ -24,7 +24,7 @@ use Rattle.shuffler.specs.declared.Answer.{Answer}
 use Rattle.shuffler.specs.Promises.{seen_in, lent_plain}
 use Rattle.replay.specs.declared.Verdict.{Verdict as Verdict'}
 use Rattle.replay.specs.Promises.{seen, lent_to}
-use Rattle.theorems.specs.Outcomes.{Shuffled, Shuffles, lent_after, confirm_due}
+use Rattle.theorems.specs.Outcomes.{told_by, Shuffled, Shuffles, lent_after, confirm_due}
 
 -- ---- the room for operations is no matter to the checker
 
@@ -193,7 +193,7 @@ pub confirms : (start spill target words : List ℕ) (filled first : ℕ) (confi
     × (seen v spill'' ≡ confirm_due (lent_plain start spill filled first target config words))
 confirms start spill target words filled first config r spill' words' part v spill'' p k q =
     let e = lent_plain start spill filled first target config words in
-    let o : Shuffled = record { answer = r; spill = spill'; words = words' } in
+    let o : Shuffled = record { answer = told_by r; spill = spill'; words = words' } in
     let c : seen v spill'' ≡ confirm_due e = rw k at q ∙ after-shuffle e (λ _. refl) refl o p in
     let m : spill'' ≡ spill' = ap (λ (x : SeenVerdict). x.spill) c ∙ same-slots e ∙ sym (ap (λ (x : Seen). x.spill) p) in
     (ap (λ (x : List ℕ). seen_in r x words') m ∙ p, c)

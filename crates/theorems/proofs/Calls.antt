@@ -9,6 +9,7 @@ use mathlib.Core.List.{List, []}
 use lib.ListN.{length}
 use Rattle.std.proofs.Common.{Option, None as none, Some as some, Result, Ok, Err, IfOk, is_ok, true≢false, if◌then◌else◌}
 use lib.Dec.{eqb}
+use native.Mathlib.Omega.{arith}
 use Rattle.scope.specs.Codes.{number_of, code}
 use Rattle.scope.specs.declared.Op.{Op}
 use Rattle.scope.specs.declared.Refusal.{Refusal}
@@ -17,13 +18,16 @@ use Rattle.scope.specs.declared.Step.{Step}
 use Rattle.scope.specs.declared.Step.TheVariants.{Wrote, Refused}
 use Rattle.scope.specs.Rules.{Job, State, Plan}
 use Rattle.scope.specs.Stack.{Left, Popped}
-use Rattle.scope.specs.Tracked.{step, step_code, step_op, Stepped}
+use Rattle.scope.specs.Tracked.{step, step_code, step_op, Stepped, Spilled, Cloned}
 use Rattle.stack.specs.declared.EvmStack.{EvmStack}
 use Rattle.stack.specs.Promises.{stack_in, laid, Fresh}
 use Rattle.tracked.specs.declared.TrackedStack.{TrackedStack}
 use Rattle.tracked.specs.Promises.{tracked_of, Moves}
 use Rattle.tracked_state.specs.declared.TrackedState.{TrackedState}
 use Rattle.tracked_state.specs.Promises.{tracked_of as state_of, array_of, StepsTo}
+use Rattle.replay.specs.declared.Fault.{Fault}
+use Rattle.replay.specs.declared.Fault.TheVariants as F
+use Rattle.replay.specs.Faults.{number_of as fault_number, code_of as verdict_code}
 use Rattle.rules.specs.Promises.{Answer as Chose, planned, Chosen}
 
 -- ---- The views of an enum: two answers that look the same are the same, since the answer can be told from its view
@@ -104,6 +108,96 @@ code-same = loses-nothing code told tells
     tells (Err R.Unfilled) = refl
     tells (Err R.SwapOfZero) = refl
 
+-- the fault with a code; a refusal of the job where it is none of the list's
+abbrev fault_of : ℕ → Fault
+fault_of n =
+    if eqb n 30 then F.Odd
+    else if eqb n 31 then F.Unknown
+    else if eqb n 32 then F.SwapFar
+    else if eqb n 33 then F.SwapBelow
+    else if eqb n 34 then F.DupFar
+    else if eqb n 35 then F.DupBelow
+    else if eqb n 36 then F.TooHigh
+    else if eqb n 37 then F.NoneLeft
+    else if eqb n 38 then F.OtherSlot
+    else if eqb n 39 then F.NoSlot
+    else if eqb n 40 then F.NotFilled
+    else if eqb n 41 then F.Unlike
+    else F.Job (refusal_of n)
+
+fault-told : (f : Fault) → fault_of (fault_number f) ≡ f
+fault-told (F.Job R.Limit) = refl
+fault-told (F.Job R.Start) = refl
+fault-told (F.Job R.Target) = refl
+fault-told (F.Job R.Filled) = refl
+fault-told (F.Job R.Slots) = refl
+fault-told (F.Job R.Missing) = refl
+fault-told (F.Job R.Full) = refl
+fault-told (F.Job R.Stuck) = refl
+fault-told (F.Job R.Ticks) = refl
+fault-told (F.Job R.Spill) = refl
+fault-told (F.Job R.Ops) = refl
+fault-told (F.Job R.Inside) = refl
+fault-told (F.Job R.Job) = refl
+fault-told (F.Job R.Empty) = refl
+fault-told (F.Job R.Outside) = refl
+fault-told (F.Job R.Unfilled) = refl
+fault-told (F.Job R.SwapOfZero) = refl
+fault-told F.Odd = refl
+fault-told F.Unknown = refl
+fault-told F.SwapFar = refl
+fault-told F.SwapBelow = refl
+fault-told F.DupFar = refl
+fault-told F.DupBelow = refl
+fault-told F.TooHigh = refl
+fault-told F.NoneLeft = refl
+fault-told F.OtherSlot = refl
+fault-told F.NoSlot = refl
+fault-told F.NotFilled = refl
+fault-told F.Unlike = refl
+
+no-fault-is-none : (f : Fault) → fault_number f ≡ 0 → ⊥
+no-fault-is-none (F.Job R.Limit) e = omega (arith, e)
+no-fault-is-none (F.Job R.Start) e = omega (arith, e)
+no-fault-is-none (F.Job R.Target) e = omega (arith, e)
+no-fault-is-none (F.Job R.Filled) e = omega (arith, e)
+no-fault-is-none (F.Job R.Slots) e = omega (arith, e)
+no-fault-is-none (F.Job R.Missing) e = omega (arith, e)
+no-fault-is-none (F.Job R.Full) e = omega (arith, e)
+no-fault-is-none (F.Job R.Stuck) e = omega (arith, e)
+no-fault-is-none (F.Job R.Ticks) e = omega (arith, e)
+no-fault-is-none (F.Job R.Spill) e = omega (arith, e)
+no-fault-is-none (F.Job R.Ops) e = omega (arith, e)
+no-fault-is-none (F.Job R.Inside) e = omega (arith, e)
+no-fault-is-none (F.Job R.Job) e = omega (arith, e)
+no-fault-is-none (F.Job R.Empty) e = omega (arith, e)
+no-fault-is-none (F.Job R.Outside) e = omega (arith, e)
+no-fault-is-none (F.Job R.Unfilled) e = omega (arith, e)
+no-fault-is-none (F.Job R.SwapOfZero) e = omega (arith, e)
+no-fault-is-none F.Odd e = omega (arith, e)
+no-fault-is-none F.Unknown e = omega (arith, e)
+no-fault-is-none F.SwapFar e = omega (arith, e)
+no-fault-is-none F.SwapBelow e = omega (arith, e)
+no-fault-is-none F.DupFar e = omega (arith, e)
+no-fault-is-none F.DupBelow e = omega (arith, e)
+no-fault-is-none F.TooHigh e = omega (arith, e)
+no-fault-is-none F.NoneLeft e = omega (arith, e)
+no-fault-is-none F.OtherSlot e = omega (arith, e)
+no-fault-is-none F.NoSlot e = omega (arith, e)
+no-fault-is-none F.NotFilled e = omega (arith, e)
+no-fault-is-none F.Unlike e = omega (arith, e)
+
+-- a fault, by its code
+pub fault-same : (a b : Fault) → fault_number a ≡ fault_number b → a ≡ b
+fault-same = loses-nothing fault_number fault_of fault-told
+
+-- the checker's outcome, by its code
+pub verdict-same : (a b : Result Unit Fault) → verdict_code a ≡ verdict_code b → a ≡ b
+verdict-same (Ok a) (Ok b) e = refl
+verdict-same (Ok a) (Err g) e = absurd (no-fault-is-none g (sym e))
+verdict-same (Err f) (Ok b) e = absurd (no-fault-is-none f e)
+verdict-same (Err f) (Err g) e = ap (λ x. Err x) (fault-same f g e)
+
 -- a step, by its code and its operation together
 pub step_same : (a b : Step) → ◌≡◌ {A = ℕ × Option Op} (step_code a, step_op a) (step_code b, step_op b) → a ≡ b
 step_same = loses-nothing (λ (r : Step). (step_code r, step_op r)) told tells
@@ -153,6 +247,12 @@ pub steps-once : (to : Stepped) (a b : Step) (old s t : TrackedStack) → Moves 
 steps-once to a b old s t p q =
     (step_same a b (both (p.code ∙ sym q.code) (p.op ∙ sym q.op)), p.state ∙ sym q.state, p.words ∙ sym q.words, p.array ∙ sym q.array)
 
+-- the same with the spill words
+pub spills-once : (to : Spilled) (a b : Step) (old s t : TrackedStack)
+    → Moves to.step a old s → s.spill.now ≡ to.spill → Moves to.step b old t → t.spill.now ≡ to.spill
+    → ((a ≡ b) × (tracked_of s ≡ tracked_of t) × (s.ops.now ≡ t.ops.now) × (s.stack.now.stack_raw ≡ t.stack.now.stack_raw)) × (s.spill.now ≡ t.spill.now)
+spills-once to a b old s t p k q l = (steps-once to.step a b old s t p q, k ∙ sym l)
+
 -- the same of a state, which has no loans
 pub states-once : (to : Stepped) (a b : Step) (before s t : TrackedState) (ops words : List ℕ) → StepsTo to a before s ops → StepsTo to b before t words
     → (a ≡ b) × (state_of s ≡ state_of t) × (ops ≡ words) × (array_of s ≡ array_of t)
@@ -192,6 +292,13 @@ module _ {A F G : Type 0} (f : A → F) (g : A → G) where
         where
           err : (r t : Refusal) → ◌≡◌ {A = Result Unit Refusal} (Err r) (Err t) → r ≡ t
           err r t k = refusal-same r t (ap code k)
+
+-- a state that is copied, with the spill words that it gets
+pub clones-once : (to : Cloned) (array : List ℕ) (a b : Result TrackedState Refusal) (spill words : List ℕ)
+    → code a ≡ to.made.code → IfOk a (λ s. state_of s ≡ to.made.state) → IfOk a (λ s. array_of s ≡ array) → spill ≡ to.spill
+    → code b ≡ to.made.code → IfOk b (λ s. state_of s ≡ to.made.state) → IfOk b (λ s. array_of s ≡ array) → words ≡ to.spill
+    → (made_by state_of array_of a ≡ made_by state_of array_of b) × (spill ≡ words)
+clones-once to array a b spill words c p q k d u v l = (makes-once state_of array_of to.made.code to.made.state array a b c p q d u v, k ∙ sym l)
 
 -- a new stack
 pub fresh-once : (a b : EvmStack) → Fresh a → Fresh b → (stack_in a ≡ stack_in b) × (a.stack_raw ≡ b.stack_raw)

@@ -6,9 +6,7 @@ use mathlib.Core.Logic.{◌≢◌}
 use mathlib.Core.List.{List, [], ◌∷◌, ◌++◌}
 use lib.ListN.{length, take, drop}
 use lib.Seq.{take_at, drop-append_seam}
-use Rattle.std.proofs.Common.{Result as Outcome, Ok, Err}
 use Rattle.scope.specs.declared.Op.{Op}
-use Rattle.scope.specs.Codes.{code}
 use Rattle.scope.specs.Words.{Stack, stack_of}
 use Rattle.scope.specs.Machine.{kind, argument, words_of, over, over_from}
 use Rattle.scope.specs.Rules.{Job}
@@ -20,11 +18,7 @@ use Rattle.scope.specs.Once.{Lent, job_lent, start_lent, Seen, shuffle_due, Seen
 use Rattle.scope.proofs.Exact.{even-words, words-once}
 use Rattle.scope.proofs.OnEvm.{step-does}
 use Rattle.stack.specs.Promises.{stack_in}
-use Rattle.replay.specs.declared.Verdict.{Verdict as Verdict'}
-use Rattle.replay.specs.declared.Fault.{Fault as Fault'}
-use Rattle.replay.specs.Faults.{number_of, code_of as verdict_code}
-use Rattle.replay.specs.Promises.{answered}
-use Rattle.theorems.specs.Outcomes.{Shuffled, Shuffles, Checked, Checks, Wrote, OnEvm, instruction, stores, loads}
+use Rattle.theorems.specs.Outcomes.{Found, answered, Shuffled, Shuffles, Checked, Checks, Wrote, OnEvm, instruction, stores, loads}
 
 -- ---- a shuffle's outcome is the result of the definition
 
@@ -32,7 +26,7 @@ module _ (e : Lent) (o : Shuffled) (p : Shuffles e o) where
   abbrev due : Result
   due = shuffle (job_lent e) (start_lent e)
 
-  pub code_is : code o.answer.outcome ≡ due.code
+  pub code_is : o.answer.code ≡ due.code
   unfolding shuffle_due
   code_is = ap (λ (x : Seen). x.code) p
 
@@ -67,11 +61,11 @@ module _ (e : Lent) (v : Checked) (p : Checks e v) where
   abbrev judged : Verdict
   judged = replay (job_lent e) (start_lent e) e.words
 
-  pub check-code-is : verdict_code v.verdict.outcome ≡ judged.code
+  pub check-code-is : v.verdict.code ≡ judged.code
   unfolding check_due
   check-code-is = ap (λ (x : SeenVerdict). x.code) p
 
-  pub found : (verdict_code v.verdict.outcome ≡ judged.code)
+  pub found : (v.verdict.code ≡ judged.code)
       × (v.verdict.index ≡ judged.index)
       × (v.verdict.gas ≡ judged.gas)
       × (v.verdict.filled ≡ length judged.spilled)
@@ -85,13 +79,8 @@ module _ (e : Lent) (v : Checked) (p : Checks e v) where
     ap (λ (x : SeenVerdict). x.spill) p,
   )
 
-pub answered-by : (v : Verdict') {x : Outcome Unit Fault'} {i g n : ℕ} → v.outcome ≡ x → v.index ≡ i → v.gas ≡ g → v.filled ≡ n → v ≡ answered x i g n
+pub answered-by : (v : Found) {c i g n : ℕ} → v.code ≡ c → v.index ≡ i → v.gas ≡ g → v.filled ≡ n → v ≡ answered c i g n
 answered-by v a b d f = rw (← a, ← b, ← d, ← f) refl
-
--- an outcome with a code is a fault of that code
-pub at-fault : (x : Outcome Unit Fault') (r : ℕ) → verdict_code x ≡ suc r → (f : Fault') × (x ≡ Err f) × (number_of f ≡ suc r)
-at-fault (Ok a) r q = absurd (omega (arith, q))
-at-fault (Err f) r q = (f, refl, q)
 
 -- ---- what was written is determined
 

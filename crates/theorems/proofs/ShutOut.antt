@@ -5,14 +5,12 @@ use mathlib.Core.Path.{◌≡◌, refl, sym, ap, ◌∙◌}
 use mathlib.Core.Logic.{◌≢◌}
 use mathlib.Core.List.{List, [], ◌∷◌}
 use lib.ListN.{get_or, take}
-use Rattle.scope.specs.Codes.{code}
 use Rattle.scope.specs.Words.{◌∈◌, count, same_list, seek, lowest, highest, holds, first_of, latest_of}
 use Rattle.scope.specs.Machine.{words_of}
 use Rattle.scope.specs.Rules.{differs, wants_top, extra, extra_at, gives_for, giver, can_be_set_right, needs_copy, out_of_reach, counting_stops, safe_to_bury, load, store, counted, rule_a, rule_b, rule_c, rule_d, rule_e, rule_f, shrink_plan, rule_x, may_push, store_unless_push, rule_u, rule_v, rule_w, grow_plan}
 use Rattle.scope.specs.Shuffle.{perform, loop, shrink, grow, finish, run_from, shuffle}
 use Rattle.scope.specs.Replay.{replay_from, replay}
 use Rattle.scope.specs.Once.{Lent, Seen, shuffle_due, SeenVerdict, check_due}
-use Rattle.replay.specs.Faults.{code_of as verdict_code}
 use Rattle.theorems.specs.Outcomes.{Shuffled, Shuffles, Checked, Checks, case_b, case_e, case_f, case_k, none_from}
 
 -- ---- what is due in the cases, as far as it is needed
@@ -61,7 +59,7 @@ check-b = refl
 -- ---- a shuffler that keeps the promise
 
 module _ (f : Lent → Shuffled) (keeps : (e : Lent) → Shuffles e (f e)) where
-  code_in : (e : Lent) → code (f e).answer.outcome ≡ (known e).code
+  code_in : (e : Lent) → (f e).answer.code ≡ (known e).code
   code_in e = ap (λ (x : Seen). x.code) (keeps e)
 
   ops-in : (e : Lent) → (f e).answer.ops ≡ (known e).ops
@@ -71,7 +69,7 @@ module _ (f : Lent → Shuffled) (keeps : (e : Lent) → Shuffles e (f e)) where
   words-in e = ap (λ (x : Seen). take 2 x.words) (keeps e)
 
   -- does not refuse always (B)
-  pub not-refusing-always : ((e : Lent) → code (f e).answer.outcome ≢ 0) → ⊥
+  pub not-refusing-always : ((e : Lent) → (f e).answer.code ≢ 0) → ⊥
   not-refusing-always wrong = wrong case_b (code_in case_b ∙ ap (λ (x : Known). x.code) case-b)
 
   -- does not give one list always (B against E): not even the first record is always the same
@@ -88,7 +86,7 @@ module _ (f : Lent → Shuffled) (keeps : (e : Lent) → Shuffles e (f e)) where
       omega (arith, ap (λ (l : List ℕ). get_or l 0 0) e)
 
   -- does not do one step and then claim success (F)
-  pub not-one-step-and-success : ((e : Lent) → (code (f e).answer.outcome ≡ 0) × ((f e).answer.ops ≤ 1)) → ⊥
+  pub not-one-step-and-success : ((e : Lent) → ((f e).answer.code ≡ 0) × ((f e).answer.ops ≤ 1)) → ⊥
   not-one-step-and-success wrong = omega (arith, (wrong case_f).1, ops-in case_f ∙ ap (λ (x : Known). x.ops) case-f)
 
   -- does not report ticks that it has invented (K): there are 1 and 5
@@ -102,11 +100,11 @@ module _ (f : Lent → Shuffled) (keeps : (e : Lent) → Shuffles e (f e)) where
 
 module _ (g : Lent → Checked) (keeps : (e : Lent) → Checks e (g e)) where
   -- does not accept all (B, with no operation)
-  pub not-accepting-all : ((e : Lent) → verdict_code (g e).verdict.outcome ≡ 0) → ⊥
+  pub not-accepting-all : ((e : Lent) → (g e).verdict.code ≡ 0) → ⊥
   not-accepting-all wrong =
       let e = none_from (7 ∷ []) in
       omega (arith, sym (wrong e) ∙ ap (λ (x : SeenVerdict). x.code) (keeps e) ∙ check-b)
 
   -- does not refuse all (A)
-  pub not-refusing-all : ((e : Lent) → verdict_code (g e).verdict.outcome ≢ 0) → ⊥
+  pub not-refusing-all : ((e : Lent) → (g e).verdict.code ≢ 0) → ⊥
   not-refusing-all wrong = wrong (none_from []) (ap (λ (x : SeenVerdict). x.code) (keeps (none_from [])) ∙ check-a)

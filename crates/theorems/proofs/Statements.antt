@@ -10,8 +10,6 @@ use mathlib.Core.Logic.{◌≢◌, ◌↔◌}
 use mathlib.Core.List.{List, [], ◌∷◌, ◌++◌}
 use lib.ListN.{length, take, take-append-drop, length-drop}
 use Rattle.scope.specs.declared.Op.{Op}
-use Rattle.std.proofs.Common.{Err}
-use Rattle.scope.specs.Codes.{code}
 use Rattle.scope.specs.Words.{stack_of, ◌at◌}
 use Rattle.scope.specs.Machine.{kind, argument, words_of, over}
 use Rattle.scope.specs.Rules.{State}
@@ -32,18 +30,15 @@ use Rattle.operations.specs.declared.ScheduleConfig.{ScheduleConfig}
 use Rattle.tracked_state.specs.declared.TrackedState.{TrackedState}
 use Rattle.tracked_state.specs.Promises.{tracked_of}
 use Rattle.shuffler.specs.Promises.{lent_plain, lent_state, state_due}
-use Rattle.replay.specs.declared.Fault.{Fault}
-use Rattle.replay.specs.Faults.{number_of, code_of as verdict_code}
-use Rattle.replay.specs.Promises.{answered}
-use Rattle.theorems.specs.Outcomes.{Shuffled, shows, Shuffles, Checked, finds, Checks, lent_after, confirm_due, Wrote, OnEvm}
+use Rattle.theorems.specs.Outcomes.{answered, Shuffled, shows, Shuffles, Checked, finds, Checks, lent_after, confirm_due, Wrote, OnEvm}
 use Rattle.theorems.proofs.After.{after-shuffle, confirms-success}
-use Rattle.theorems.proofs.Carried.{code_is, ticks-are, stack_is, values-are, wrote, due-nothing, check-code-is, found, at-fault, answered-by, wrote-once, at_place, on-evm, fault-halts}
+use Rattle.theorems.proofs.Carried.{code_is, ticks-are, stack_is, values-are, wrote, due-nothing, check-code-is, found, answered-by, wrote-once, at_place, on-evm, fault-halts}
 
 -- ---- A job that codes 1 to 5 refuse
 
 -- The answer has that code, zero counts and an empty stack; no word of either buffer is changed.
 pub nothing-is-done : (e : Lent) (o : Shuffled) → Shuffles e o → (r : ℕ) → code_of (job_lent e) (start_lent e) ≡ suc r
-    → (code o.answer.outcome ≡ suc r)
+    → (o.answer.code ≡ suc r)
     × (o.answer.shrink_ticks ≡ 0)
     × (o.answer.grow_ticks ≡ 0)
     × (stack_in o.answer.stack ≡ stack_of [])
@@ -76,7 +71,7 @@ module _ (e : Lent) (o : Shuffled) (h : Stated (start_lent e)) (p : Shuffles e o
       (r.ops, r.spilled, wrote e o p, rw (values-are e o p) (shuffle-runs (job_lent e) (start_lent e) h z))
 
   -- A shuffle that answers 0 has left exactly the target: that is the stack which is answered, and where its operations lead.
-  pub ends-in-the-target : code o.answer.outcome ≡ 0
+  pub ends-in-the-target : o.answer.code ≡ 0
       → (stack_in o.answer.stack ≡ stack_of e.target)
       × (os : List Op) × (slots : List ℕ)
       × Wrote e o os slots
@@ -130,7 +125,7 @@ moments-follow-one-another e = moments-follow (job_lent e) (start_lent e)
 module _ (e : Lent) (v : Checked) (h : Stated (start_lent e)) (p : Checks e v) (z : code_of (job_lent e) (start_lent e) ≡ 0) where
   -- It accepts a list, whoever made it, exactly when the words are whole, well-formed records of operations that are legal one after the
   -- other from the start, and that end in the target.
-  pub accepts-exactly : (verdict_code v.verdict.outcome ≡ 0) ↔ Lawful (job_lent e) e.stack.values (take e.filled e.spill) e.words
+  pub accepts-exactly : (v.verdict.code ≡ 0) ↔ Lawful (job_lent e) e.stack.values (take e.filled e.spill) e.words
   accepts-exactly =
       let x = accepts-exact (job_lent e) (start_lent e) e.words h z in
       let c = check-code-is e v p in
@@ -140,7 +135,7 @@ module _ (e : Lent) (v : Checked) (h : Stated (start_lent e)) (p : Checks e v) (
   -- first of its faults, in document 01's order, with the gas and the slots of those before it.
   pub judges-rightly : length e.words % 2 ≡ 0
       → (slots : List ℕ)
-      × Judged (job_lent e) e.stack.values (take e.filled e.spill) e.words (verdict (verdict_code v.verdict.outcome) v.verdict.index v.verdict.gas slots)
+      × Judged (job_lent e) e.stack.values (take e.filled e.spill) e.words (verdict v.verdict.code v.verdict.index v.verdict.gas slots)
       × (v.verdict.filled ≡ length slots)
       × (v.spill ≡ over slots e.spill)
   judges-rightly even =
@@ -150,7 +145,7 @@ module _ (e : Lent) (v : Checked) (h : Stated (start_lent e)) (p : Checks e v) (
 
   -- Where it refuses for the stack's sake (33, 35, 36, 37), the operations before the record at fault are legal, and on the stack that they
   -- leave the record's instruction, if the EVM has one for it, halts.
-  pub refuses-what-halts : length e.words % 2 ≡ 0 → 33 ≤ verdict_code v.verdict.outcome → verdict_code v.verdict.outcome ≤ 37 → verdict_code v.verdict.outcome ≢ 34
+  pub refuses-what-halts : length e.words % 2 ≡ 0 → 33 ≤ v.verdict.code → v.verdict.code ≤ 37 → v.verdict.code ≢ 34
       → (os : List Op) × (k : ℕ) × (a : ℕ) × (rest : List ℕ) × (l : List ℕ) × (m : List ℕ)
       × (e.words ≡ words_of os ++ k ∷ a ∷ rest)
       × (length os ≡ v.verdict.index)
@@ -169,19 +164,16 @@ module _ (e : Lent) (v : Checked) (h : Stated (start_lent e)) (p : Checks e v) (
       go (faulty os l m k x c rest q r f) a b n = (os, k, x, rest, l, m, q, refl, r, fault-halts (job_lent e) l (length m) f a n)
 
   -- Of any other number of words it replays none: 30.
-  pub wants-whole-records : length e.words % 2 ≢ 0 → verdict_code v.verdict.outcome ≡ 30
+  pub wants-whole-records : length e.words % 2 ≢ 0 → v.verdict.code ≡ 30
   wants-whole-records odd = check-code-is e v p ∙ ap (λ (r : Verdict). r.code) (odd-exact (job_lent e) (start_lent e) e.words h z odd)
 
 -- Codes 1 to 5 come first, with all else 0, and no word is changed.
 pub checks-nothing : (e : Lent) (v : Checked) → Checks e v → (r : ℕ) → code_of (job_lent e) (start_lent e) ≡ suc r
-    → (f : Fault) × (number_of f ≡ suc r) × (v.verdict ≡ answered (Err f) 0 0 0) × (v.spill ≡ e.spill)
+    → (v.verdict ≡ answered (suc r) 0 0 0) × (v.spill ≡ e.spill)
 checks-nothing e v p r z =
     let f = found e v p in
-    let q = job-exact (job_lent e) (start_lent e) e.words r z in
-    let x = at-fault v.verdict.outcome r (f.0 ∙ ap (λ (x : Verdict). x.code) q) in (
-      x.0,
-      x.2,
-      answered-by v.verdict x.1 (f.1 ∙ ap (λ (x : Verdict). x.index) q) (f.2 ∙ ap (λ (x : Verdict). x.gas) q)
+    let q = job-exact (job_lent e) (start_lent e) e.words r z in (
+      answered-by v.verdict (f.0 ∙ ap (λ (x : Verdict). x.code) q) (f.1 ∙ ap (λ (x : Verdict). x.index) q) (f.2 ∙ ap (λ (x : Verdict). x.gas) q)
           (f.3 ∙ ap (λ (x : Verdict). length x.spilled) q),
       f.4 ∙ ap (λ (x : Verdict). over x.spilled e.spill) q,
     )
@@ -194,16 +186,16 @@ module _ (e : Lent) (o : Shuffled) (v : Checked) (h : Stated (start_lent e)) (w 
   confirms-the-shuffle = q ∙ after-shuffle e h w o p
 
   -- Where the shuffle answered 0 the checker accepts.
-  pub accepts-a-success : code o.answer.outcome ≡ 0 → verdict_code v.verdict.outcome ≡ 0
+  pub accepts-a-success : o.answer.code ≡ 0 → v.verdict.code ≡ 0
   accepts-a-success z = ap (λ (x : SeenVerdict). x.code) confirms-the-shuffle ∙ confirms-success e (sym (code_is e o p) ∙ z)
 
 -- ---- The codes that can come
 
-pub shuffle-answers : (e : Lent) (o : Shuffled) → Shuffles e o → code o.answer.outcome ≤ 12
+pub shuffle-answers : (e : Lent) (o : Shuffled) → Shuffles e o → o.answer.code ≤ 12
 shuffle-answers e o p = rw (code_is e o p) (shuffle-codes (job_lent e) (start_lent e))
 
 -- 0 to 5 and 30 to 41
-pub check-answers : (e : Lent) (v : Checked) → Checks e v → Listed (verdict_code v.verdict.outcome)
+pub check-answers : (e : Lent) (v : Checked) → Checks e v → Listed v.verdict.code
 check-answers e v p = rw (check-code-is e v p) (check-codes (job_lent e) (start_lent e) e.words)
 
 -- ---- The promise determines the outcome

@@ -2,42 +2,85 @@
 use Rattle.std.specs.Prelude.{ℕ, ◌*◌, ◌≡◌, List, [], ◌∷◌, length, take, drop, replicate, if◌then◌else◌}
 use Rattle.scope.specs.declared.Op.{Op}
 use Rattle.scope.specs.declared.Op.TheVariants.{Store, Load}
-use Rattle.scope.specs.Codes.{DONE, UNLIKE}
+use Rattle.scope.specs.Codes.{code, DONE, UNLIKE}
 use Rattle.scope.specs.Words.{if_zero, same_list, stack_of}
 use Rattle.scope.specs.Machine.{record_words, words_of, over, over_from, gas_sum}
 use Rattle.scope.specs.Evm.{Instr, Does, Codes}
 use Rattle.scope.specs.Shuffle.{code_of, shuffle}
 use Rattle.scope.specs.Replay.{verdict}
 use Rattle.scope.specs.Once.{Promise, Lent, job_lent, start_lent, Seen, shuffle_due, SeenVerdict, seen_verdict, check_due}
+use Rattle.stack.specs.declared.EvmStack.{EvmStack}
+use Rattle.stack.specs.Promises.{stack_in}
 use Rattle.shuffler.specs.declared.Answer.{Answer}
-use Rattle.shuffler.specs.Promises.{seen_in}
 use Rattle.replay.specs.declared.Verdict.{Verdict}
-use Rattle.replay.specs.Promises.{seen}
+use Rattle.replay.specs.Faults.{code_of as verdict_code}
 
--- ---- A shuffle: its answer, and every word of the two buffers after it
+-- ---- A shuffle: what its answer tells, and every word of the two buffers after it
+
+-- What an answer tells: C's has these fields; the Rust one's outcome tells the code.
+pub record Told : Type 0 where
+  pub code : ℕ
+  pub shrink_ticks : ℕ
+  pub grow_ticks : ℕ
+  pub ops : ℕ
+  pub slots : ℕ
+  pub stack : EvmStack
+
+abbrev pub told_by : Answer → Told
+told_by r = record {
+  code = code r.outcome;
+  shrink_ticks = r.shrink_ticks;
+  grow_ticks = r.grow_ticks;
+  ops = r.ops;
+  slots = r.slots;
+  stack = r.stack;
+}
 
 pub record Shuffled : Type 0 where
-  pub answer : Answer
+  pub answer : Told
   pub spill : List ℕ
   pub words : List ℕ
 
 abbrev pub shows : Shuffled → Seen
-shows o = seen_in o.answer o.spill o.words
+shows o = record {
+  code = o.answer.code;
+  shrink_ticks = o.answer.shrink_ticks;
+  grow_ticks = o.answer.grow_ticks;
+  ops = o.answer.ops;
+  slots = o.answer.slots;
+  stack = stack_in o.answer.stack;
+  spill = o.spill;
+  words = o.words;
+}
 
--- The promise of `shuffle`, of `run`, of the entry and of `njallavet_shuffle`: they differ in what is lent, and in nothing else.
+-- The promise of `shuffle`, of `run`, of the entry and of `njallavet_shuffle`: they differ in what is lent, and in nothing else. Each `seen_in`
+-- is this view, of the Rust answer by `told_by`, of C's field by field.
 abbrev pub Shuffles : Lent → Shuffled → Type 0
 Shuffles e o = Promise shows shuffle_due e o
 
--- ---- The checker: its verdict, and every word of the spill buffer after it
+-- ---- The checker: what its verdict tells, and every word of the spill buffer after it
+
+-- What a verdict tells: C's has these fields; the Rust one's outcome tells the code.
+pub record Found : Type 0 where
+  pub code : ℕ
+  pub index : ℕ
+  pub gas : ℕ
+  pub filled : ℕ
+
+abbrev pub answered : ℕ → ℕ → ℕ → ℕ → Found
+answered c i g n = record { code = c; index = i; gas = g; filled = n }
+
+abbrev pub found_by : Verdict → Found
+found_by v = answered (verdict_code v.outcome) v.index v.gas v.filled
 
 pub record Checked : Type 0 where
-  pub verdict : Verdict
+  pub verdict : Found
   pub spill : List ℕ
 
 abbrev pub finds : Checked → SeenVerdict
-finds v = seen v.verdict v.spill
+finds v = record { code = v.verdict.code; index = v.verdict.index; gas = v.verdict.gas; filled = v.verdict.filled; spill = v.spill }
 
--- The promise of `check` and of `njallavet_check`.
+-- The promise of `check` and of `njallavet_check`; each `seen` is this view.
 abbrev pub Checks : Lent → Checked → Type 0
 Checks e v = Promise finds check_due e v
 

@@ -1,4 +1,4 @@
-// The combined statement over the code: a shuffle, and then the checker on what it wrote.
+//! The combined statement over the code: a shuffle, and then the checker on what it wrote.
 #![tactic(auto)]
 
 ghost use Rattle.std.specs.Prelude.{◌*◌, ◌≡◌, take};

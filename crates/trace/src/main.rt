@@ -1,4 +1,4 @@
-// Reads one job from standard input and writes its trace; with an argument, the trace of the list in that file. The work is `tracing`'s.
+//! Reads one job from standard input and writes its trace; with an argument, the trace of the list in that file. The work is `tracing`'s.
 #![tactic(auto)]
 
 use input::{Inputs, read_full};
@@ -9,7 +9,7 @@ use std::rt::Files;
 use std::str;
 use tracing::{room, trace_job, trace_list};
 
-// The list in a file, on a job. One byte more than a list may have is read, so that a longer one shows.
+/// The list in a file, on a job. One byte more than a list may have is read, so that a longer one shows.
 fn list<R: Files + Eprint>(
     out: &mut impl Write,
     inputs: &mut Inputs<'_, R>,
@@ -26,14 +26,14 @@ fn list<R: Files + Eprint>(
     out.write_all(&lines[..len.min(lines.len())])
 }
 
-// The run of a job.
+/// The run of a job.
 fn run(out: &mut impl Write, bytes: &[u8]) -> io::Result<()> {
     let mut lines = room();
     let len = trace_job(bytes, &mut lines);
     out.write_all(&lines[..len.min(lines.len())])
 }
 
-// One byte more than a job may have is read, as the driver does. A name that no path can have is taken for an empty one.
+/// One byte more than a job may have is read, as the driver does. A name that no path can have is taken for an empty one.
 fn main(rt: HostRuntime) -> io::Result<ExitCode> {
     let mut bytes = [0u8; 16421];
     let n = read_full(&mut rt.reader(), &mut bytes)?;

@@ -1,4 +1,4 @@
-// Traces stored jobs, and stored lists on them, one after the other, and writes each one's name and its trace.
+//! Traces stored jobs, and stored lists on them, one after the other, and writes each one's name and its trace.
 #![tactic(auto)]
 
 ghost use Rattle.std.specs.Prelude.{◌≤◌, length, IfOk};
@@ -9,7 +9,7 @@ use std::process::ExitCode;
 use std::rt::Files;
 use tracing::{room, trace_job, trace_list, trace_words};
 
-// A file's bytes, as many as the buffer takes; how many there are.
+/// A file's bytes, as many as the buffer takes; how many there are.
 fn read<R: Files + Eprint>(
     inputs: &mut Inputs<'_, R>,
     path: &str,
@@ -23,7 +23,7 @@ fn read<R: Files + Eprint>(
     read_full(&mut file, bytes)
 }
 
-// The first and the last four hundred bytes of the lines, where there are more than eight hundred.
+/// The first and the last four hundred bytes of the lines, where there are more than eight hundred.
 fn write_ends(out: &mut impl Write, lines: &[u8]) -> io::Result<()> {
     if lines.len() > 800 {
         let (first, _) = lines.split_at(400);
@@ -35,7 +35,7 @@ fn write_ends(out: &mut impl Write, lines: &[u8]) -> io::Result<()> {
     Ok(())
 }
 
-// The trace of a job.
+/// The trace of a job.
 fn job<R: Files + Eprint>(
     out: &mut impl Write,
     inputs: &mut Inputs<'_, R>,
@@ -49,7 +49,7 @@ fn job<R: Files + Eprint>(
     out.write_all(&lines[..len.min(lines.len())])
 }
 
-// The same of a long one, cut.
+/// The same of a long one, cut.
 fn long_job<R: Files + Eprint>(
     out: &mut impl Write,
     inputs: &mut Inputs<'_, R>,
@@ -63,7 +63,7 @@ fn long_job<R: Files + Eprint>(
     write_ends(out, &lines[..len.min(lines.len())])
 }
 
-// The trace of a list on a job.
+/// The trace of a list on a job.
 fn list<R: Files + Eprint>(
     out: &mut impl Write,
     inputs: &mut Inputs<'_, R>,
@@ -80,7 +80,7 @@ fn list<R: Files + Eprint>(
     out.write_all(&lines[..len.min(lines.len())])
 }
 
-// The trace of operation words, for those that no text gives.
+/// The trace of operation words, for those that no text gives.
 fn words<R: Files + Eprint>(
     out: &mut impl Write,
     inputs: &mut Inputs<'_, R>,
@@ -96,7 +96,7 @@ fn words<R: Files + Eprint>(
     out.write_all(&lines[..len.min(lines.len())])
 }
 
-// The runs worked by hand, A to L, and N both ways, which shows a stack that is cut.
+/// The runs worked by hand, A to L, and N both ways, which shows a stack that is cut.
 fn table<R: Files + Eprint>(out: &mut impl Write, inputs: &mut Inputs<'_, R>) -> io::Result<()> {
     for path in [
         "a.job", "b.job", "c.job", "d.job", "e.job", "f.job", "g.job", "h.job", "i.job", "j.job",
@@ -107,7 +107,7 @@ fn table<R: Files + Eprint>(out: &mut impl Write, inputs: &mut Inputs<'_, R>) ->
     Ok(())
 }
 
-// Each other code that a job can get from the driver.
+/// Each other code that a job can get from the driver.
 fn codes<R: Files + Eprint>(out: &mut impl Write, inputs: &mut Inputs<'_, R>) -> io::Result<()> {
     for path in [
         "code1.job",
@@ -123,7 +123,7 @@ fn codes<R: Files + Eprint>(out: &mut impl Write, inputs: &mut Inputs<'_, R>) ->
     job(out, inputs, "empty.job")
 }
 
-// Each verdict on a list from elsewhere, the driver's own output first.
+/// Each verdict on a list from elsewhere, the driver's own output first.
 fn verdicts<R: Files + Eprint>(out: &mut impl Write, inputs: &mut Inputs<'_, R>) -> io::Result<()> {
     for (path, on) in [
         ("l.list", "l.job"),
@@ -151,7 +151,7 @@ fn verdicts<R: Files + Eprint>(out: &mut impl Write, inputs: &mut Inputs<'_, R>)
     Ok(())
 }
 
-// Words that are no list, and lists that cannot be read.
+/// Words that are no list, and lists that cannot be read.
 fn no_lists<R: Files + Eprint>(out: &mut impl Write, inputs: &mut Inputs<'_, R>) -> io::Result<()> {
     words(out, inputs, "3 words", "v.job", &[3, 0, 3])?;
     words(out, inputs, "an unknown kind", "v.job", &[3, 0, 6, 258])?;

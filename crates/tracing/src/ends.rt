@@ -1,4 +1,4 @@
-// What stands before the operations of a trace, and after them.
+//! What stands before the operations of a trace, and after them.
 ghost use Rattle.std.specs.Prelude.{◌≡◌, length};
 ghost use Rattle.lines.specs.Promises.{Wrote};
 
@@ -10,7 +10,7 @@ use meanings::put_meaning;
 use printing::Text;
 use replay::{Fault, Verdict};
 
-// The two limits and the first slot's number.
+/// The two limits and the first slot's number.
 fn put_limits(text: &mut Text, job: Job)
     ensures wrote { Wrote text.old.out.now text.old.len text.new.out.now text.new.len }
     ensures same { text.new.out.ghost_name ≡ text.old.out.ghost_name }
@@ -21,7 +21,7 @@ fn put_limits(text: &mut Text, job: Job)
     text.put(b"\n");
 }
 
-// The slots that are filled.
+/// The slots that are filled.
 fn put_spilled(text: &mut Text, first: u32, slots: &[u32])
     ensures wrote { Wrote text.old.out.now text.old.len text.new.out.now text.new.len }
     ensures same { text.new.out.ghost_name ≡ text.old.out.ghost_name }
@@ -31,7 +31,7 @@ fn put_spilled(text: &mut Text, first: u32, slots: &[u32])
     text.put(b"\n");
 }
 
-// The job in words.
+/// The job in words.
 pub(crate) fn put_job(text: &mut Text, given: Given)
     ensures wrote { Wrote text.old.out.now text.old.len text.new.out.now text.new.len }
     ensures same { text.new.out.ghost_name ≡ text.old.out.ghost_name }
@@ -42,7 +42,7 @@ pub(crate) fn put_job(text: &mut Text, given: Given)
     put_list(text, b"target  ", given.target);
 }
 
-// Why a run or a list is refused: the code, its name and its meaning. Nothing where it is not.
+/// Why a run or a list is refused: the code, its name and its meaning. Nothing where it is not.
 fn put_refusal(text: &mut Text, outcome: Result<(), Fault>)
     ensures wrote { Wrote text.old.out.now text.old.len text.new.out.now text.new.len }
     ensures same { text.new.out.ghost_name ≡ text.old.out.ghost_name }
@@ -55,14 +55,14 @@ fn put_refusal(text: &mut Text, outcome: Result<(), Fault>)
     }
 }
 
-// Zeros for the driver's answer.
+/// Zeros for the driver's answer.
 fn answer_room() -> [u8; 221344]
     ensures { 221344 ≡ length result }
 {
     [0; 221344]
 }
 
-// The first line of the driver's answer.
+/// The first line of the driver's answer.
 fn put_answer_line(text: &mut Text, answer: Answer, words: &[u32])
     ensures wrote { Wrote text.old.out.now text.old.len text.new.out.now text.new.len }
     ensures same { text.new.out.ghost_name ≡ text.old.out.ghost_name }
@@ -74,7 +74,7 @@ fn put_answer_line(text: &mut Text, answer: Answer, words: &[u32])
     }
 }
 
-// The first line of the driver's answer, and where it refuses, why.
+/// The first line of the driver's answer, and where it refuses, why.
 pub(crate) fn put_answer(text: &mut Text, answer: Answer, outcome: Result<(), Fault>, words: &[u32])
     ensures wrote { Wrote text.old.out.now text.old.len text.new.out.now text.new.len }
     ensures same { text.new.out.ghost_name ≡ text.old.out.ghost_name }
@@ -83,7 +83,7 @@ pub(crate) fn put_answer(text: &mut Text, answer: Answer, outcome: Result<(), Fa
     put_refusal(text, outcome);
 }
 
-// The checker's verdict, and where it refuses, why.
+/// The checker's verdict, and where it refuses, why.
 pub(crate) fn put_verdict(text: &mut Text, verdict: Verdict)
     ensures wrote { Wrote text.old.out.now text.old.len text.new.out.now text.new.len }
     ensures same { text.new.out.ghost_name ≡ text.old.out.ghost_name }

@@ -1,5 +1,5 @@
-// A trace, on slices: a job's bytes in, and with them nothing or a list of operations; lines for people to read out. The operations are the
-// shuffle's or the list's, the verdict is the checker's, the stacks are the tracked stack's, the counts are counting's.
+//! A trace, on slices: a job's bytes in, and with them nothing or a list of operations; lines for people to read out. The operations are the
+//! shuffle's or the list's, the verdict is the checker's, the stacks are the tracked stack's, the counts are counting's.
 #![tactic(auto)]
 
 ghost use Rattle.std.specs.Prelude.{◌≡◌, length};
@@ -19,7 +19,7 @@ use walks::put_walk;
 mod ends;
 mod words;
 
-// A job with the parts of the arrays that its lists are.
+/// A job with the parts of the arrays that its lists are.
 #[derive(Clone, Copy)]
 pub(crate) struct Given<'a> {
     pub(crate) job: Job,
@@ -39,7 +39,7 @@ impl<'a> Given<'a> {
     }
 }
 
-// The operations of a job that codes 1 to 5 let pass; nothing for another.
+/// The operations of a job that codes 1 to 5 let pass; nothing for another.
 fn put_operations(text: &mut Text, outcome: Result<(), Fault>, given: Given, ops: &[u32])
     ensures wrote { Wrote text.old.out.now text.old.len text.new.out.now text.new.len }
     ensures same { text.new.out.ghost_name ≡ text.old.out.ghost_name }
@@ -65,14 +65,13 @@ fn put_operations(text: &mut Text, outcome: Result<(), Fault>, given: Given, ops
     );
 }
 
-// A run: the job, its operations, the answer. The shuffle is lent what the driver lends, 2,048 slots and room for 4,096 operations.
+/// A run: the job, its operations, the answer. The shuffle is lent what the driver lends, 2,048 slots and room for 4,096 operations.
 fn show_run(text: &mut Text, job: Job, lists: &JobWords)
     ensures wrote { Wrote text.old.out.now text.old.len text.new.out.now text.new.len }
     ensures same { text.new.out.ghost_name ≡ text.old.out.ghost_name }
 {
-    let mut lent = *lists;
     let mut words = [0u32; 8192];
-    let run = run_job(&job, &mut lent, &mut words);
+    let run = run_job(&job, lists, &mut words);
     let ops = &words[..2 * run.ops.min(4096)];
     let outcome = run.outcome.map_err(Fault::from);
     let given = Given::new(job, lists);
@@ -81,7 +80,7 @@ fn show_run(text: &mut Text, job: Job, lists: &JobWords)
     ends::put_answer(text, numbers_of(&run), outcome, ops);
 }
 
-// The operation at which the checker refuses, if it is one.
+/// The operation at which the checker refuses, if it is one.
 fn put_fault(text: &mut Text, verdict: Verdict, words: &[u32])
     ensures wrote { Wrote text.old.out.now text.old.len text.new.out.now text.new.len }
     ensures same { text.new.out.ghost_name ≡ text.old.out.ghost_name }
@@ -96,7 +95,7 @@ fn put_fault(text: &mut Text, verdict: Verdict, words: &[u32])
     }
 }
 
-// A list: the job, the operations before the verdict, the one at fault, the verdict.
+/// A list: the job, the operations before the verdict, the one at fault, the verdict.
 fn show_list(text: &mut Text, job: Job, lists: &JobWords, words: &[u32])
     ensures wrote { Wrote text.old.out.now text.old.len text.new.out.now text.new.len }
     ensures same { text.new.out.ghost_name ≡ text.old.out.ghost_name }
@@ -125,7 +124,7 @@ fn show_list(text: &mut Text, job: Job, lists: &JobWords, words: &[u32])
     ends::put_verdict(text, verdict);
 }
 
-// Bytes that are no job.
+/// Bytes that are no job.
 fn show_no_job(text: &mut Text, refusal: Refusal)
     ensures wrote { Wrote text.old.out.now text.old.len text.new.out.now text.new.len }
     ensures same { text.new.out.ghost_name ≡ text.old.out.ghost_name }
@@ -172,7 +171,7 @@ pub fn trace_words(bytes: &[u8], words: &[u32], out: &mut [u8]) -> usize
     text.len
 }
 
-// A list that cannot be read: its line, and why.
+/// A list that cannot be read: its line, and why.
 fn show_no_list(text: &mut Text, error: ListError)
     ensures wrote { Wrote text.old.out.now text.old.len text.new.out.now text.new.len }
     ensures same { text.new.out.ghost_name ≡ text.old.out.ghost_name }

@@ -1,12 +1,12 @@
-// 002's TrackedStack: a stack, with the words that its operations and its slots are kept in. A refusal changes nothing.
+//! 002's TrackedStack: a stack, with the words that its operations and its slots are kept in. A refusal changes nothing.
 #![tactic(auto)]
 
-ghost use Rattle.std.specs.Prelude.{◌≡◌, ◌+◌, ◌<◌, ◌≤◌, ◌∷◌, length, IfOk, Some as some};
+ghost use Rattle.std.specs.Prelude.{◌≡◌, ◌+◌, ◌<◌, ◌≤◌, length, IfOk, Some as some};
 ghost use Rattle.scope.specs.Codes.{code};
 ghost use Rattle.scope.specs.Words.{latest_of};
 ghost use Rattle.scope.specs.Machine.{capacity};
 ghost use Rattle.scope.specs.Tracked.{step, step_op, emitted, stored_in, numbered, spilled_slot, next_id};
-ghost use Rattle.stack.specs.Promises.{stack_in, values_in, laid};
+ghost use Rattle.stack.specs.Promises.{values_in, laid};
 ghost use Rattle.tracked.specs.Promises.{tracked_of, popped, swapped, dupped, loaded, unspilled, spilled, put, room_for_one, next_free};
 ghost use Rattle.tracked.specs.Promises.{value_in, SameLoans, Moves};
 
@@ -41,7 +41,7 @@ pub fn alloc_id(first: u32, i: usize) -> Option<u32>
 }
 
 /// The filled slots' values, oldest first: all words where more are said to be filled.
-pub fn underlying_spilled<'a>(spill: &'a [u32], filled: usize) -> &'a [u32]
+pub fn underlying_spilled(spill: &[u32], filled: usize) -> &[u32]
     ensures { result.now ≡ stored_in filled spill.now }
 {
     &spill[..filled.min(spill.len())]
@@ -176,7 +176,7 @@ impl TrackedStack<'_> {
 
     /// Puts a value on top, and writes the operation that brings it. `Refusal::Full`, `Refusal::Ops`, in this order.
     #[tactic(auto, using(stack::proofs::Laws::laid_fifo), unfolding(scope::specs::Stack::push_on))]
-    pub fn try_put(&mut self, value: u32, op: Op) -> Result<Op, Refusal>
+    fn try_put(&mut self, value: u32, op: Op) -> Result<Op, Refusal>
         ensures loans { SameLoans self.old self.new }
         ensures code { code result ≡ (put value op self.old).code }
         ensures op { step_op (step result) ≡ (put value op self.old).op }

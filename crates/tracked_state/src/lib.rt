@@ -1,4 +1,4 @@
-// 002's TrackedStack as a value: the stack and the numbers in one struct, the operation and the spill words lent to each call.
+//! 002's TrackedStack as a value: the stack and its counts in one struct, the operation and the spill words lent to each call.
 #![tactic(auto)]
 
 ghost use Rattle.std.specs.Prelude.{◌≡◌, length, ltb, IfOk};
@@ -157,9 +157,9 @@ impl TrackedState {
 
     /// The number after the last filled slot's. `Refusal::Slots` where a `u32` does not hold it.
     #[tactic(auto, unfolding(scope::specs::Tracked::next_id))]
-    pub fn into_next_alloc_id(&self) -> Result<u32, Refusal>
-        ensures code { code result ≡ (next_id (tracked_of self.now)).code }
-        ensures id { IfOk result (λ id. id ≡ (next_id (tracked_of self.now)).id) }
+    pub fn into_next_alloc_id(self) -> Result<u32, Refusal>
+        ensures code { code result ≡ (next_id (tracked_of self)).code }
+        ensures id { IfOk result (λ id. id ≡ (next_id (tracked_of self)).id) }
     {
         tracked::alloc_id(self.first, self.filled).ok_or(Refusal::Slots)
     }

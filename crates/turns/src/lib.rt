@@ -1,4 +1,4 @@
-// One turn of a trace: an operation's words carried out by the tracked stack's calls, and the completed positions counted after it.
+//! One turn of a trace: an operation's words carried out by the tracked stack's calls, and the completed positions counted after it.
 #![tactic(auto)]
 
 ghost use Rattle.std.specs.Prelude.{◌≡◌};
@@ -17,12 +17,13 @@ use tracked::TrackedStack;
 
 /// Carries out an operation by the call that it names. A `Store` takes the next slot, whichever it says.
 #[tactic(auto, unfolding(crate::specs::Promises::step_of))]
-pub fn perform(current: &mut TrackedStack, op: Op) -> Step
+fn perform(current: &mut TrackedStack, op: Op) -> Step
     ensures loans { SameLoans current.old current.new }
     ensures state { tracked_of current.new ≡ (step_of op current.old).step.state }
     ensures array { current.new.stack.now.stack_raw
         ≡ laid (step_of op current.old).step.state.stack.values current.old.stack.now.stack_raw }
     ensures slots { current.new.spill.now ≡ (step_of op current.old).spill }
+    ensures words { current.new.ops.now ≡ (step_of op current.old).step.words }
 {
     match op {
         Op::Swap(depth) => current.swap(depth),
@@ -41,13 +42,14 @@ pub fn turn(current: &mut TrackedStack, item: Record)
     ensures array { current.new.stack.now.stack_raw
         ≡ laid (turned item current.old).step.state.stack.values current.old.stack.now.stack_raw }
     ensures slots { current.new.spill.now ≡ (turned item current.old).spill }
+    ensures words { current.new.ops.now ≡ (turned item current.old).step.words }
 {
     if let Some(op) = read_op(item.kind, item.argument) {
         perform(current, op);
     }
 }
 
-// Of the completed positions from the bottom, those below the first at which the stack is not the target.
+/// Of the completed positions from the bottom, those below the first at which the stack is not the target.
 fn kept(view: &View) -> usize
     ensures { result ≡ kept_in view.now.current.now view.now.target.now view.now.complete }
 {

@@ -1,5 +1,5 @@
-// Puts to the checker a list for each of its codes, and lists on both sides of each limit. It writes what it lends, the verdict, and the
-// slots after it.
+//! Puts to the checker a list for each of its codes, and lists on both sides of each limit. It writes what it lends, the verdict, and the
+//! slots after it.
 #![tactic(auto)]
 
 use operations::ScheduleConfig;
@@ -58,7 +58,7 @@ impl Job<'_> {
         let found = replay::check(start, spill, filled, first, target, config, ops);
         write!(out, "\n  code {} index {}", found.code(), found.index)?;
         write!(out, " gas {} filled {}", found.gas, found.filled)?;
-        write!(out, " slots {}\n", Words(spill))
+        writeln!(out, " slots {}", Words(spill))
     }
 }
 
@@ -179,6 +179,40 @@ const EDGES: [(usize, usize, usize, u32, u8, &[u32]); 10] = [
 /// Lists on a buffer with no slots, and how many of them are said to be filled.
 const NO_SLOTS: [(usize, &[u32]); 3] = [(0, &[4, 5]), (0, &[5, 5]), (1, &[3, 0])];
 
+/// The lists on tall stacks.
+fn on_tall_stacks(out: &mut impl Write, small: Job) -> io::Result<()> {
+    let sevens = [7; 1025];
+    for (height, target, swaps, dups, ops) in TALL {
+        let job = Job {
+            start: &sevens[..height.min(1025)],
+            target: &sevens[..target.min(1025)],
+            swaps,
+            dups,
+            ..small
+        };
+        job.put(out, ops)?;
+    }
+    Ok(())
+}
+
+/// The lists on the edges of a job.
+fn on_edges(out: &mut impl Write, small: Job) -> io::Result<()> {
+    let sevens = [7; 1025];
+    for (height, target, filled, first, swaps, ops) in EDGES {
+        let job = Job {
+            start: &sevens[..height.min(1025)],
+            filled,
+            first,
+            target: &sevens[..target.min(1025)],
+            swaps,
+            dups: 15,
+            ..small
+        };
+        job.put(out, ops)?;
+    }
+    Ok(())
+}
+
 fn main(rt: HostRuntime) -> io::Result<()> {
     let mut out = io::writer(&rt);
     let small = Job {
@@ -193,33 +227,8 @@ fn main(rt: HostRuntime) -> io::Result<()> {
     for (start, ops) in SMALL {
         Job { start, ..small }.put(&mut out, ops)?;
     }
-    let sevens = [7; 1025];
-    for (height, target, swaps, dups, ops) in TALL {
-        let start = &sevens[..height.min(1025)];
-        let target = &sevens[..target.min(1025)];
-        let job = Job {
-            start,
-            target,
-            swaps,
-            dups,
-            ..small
-        };
-        job.put(&mut out, ops)?;
-    }
-    for (height, target, filled, first, swaps, ops) in EDGES {
-        let start = &sevens[..height.min(1025)];
-        let target = &sevens[..target.min(1025)];
-        let job = Job {
-            start,
-            filled,
-            first,
-            target,
-            swaps,
-            dups: 15,
-            ..small
-        };
-        job.put(&mut out, ops)?;
-    }
+    on_tall_stacks(&mut out, small)?;
+    on_edges(&mut out, small)?;
     for (filled, ops) in NO_SLOTS {
         let job = Job {
             start: &[1],

@@ -1,11 +1,10 @@
-// The lines of a list's operations, one after the other, each with the stack that it leaves.
+//! The lines of a list's operations, one after the other, each with the stack that it leaves.
 #![tactic(auto)]
 
-ghost use Rattle.std.specs.Prelude.{◌≡◌, ◌++◌};
-ghost use Rattle.scope.specs.Tracked.{stored_in};
+ghost use Rattle.std.specs.Prelude.{◌≡◌};
 ghost use Rattle.stack.specs.Promises.{laid, values_in};
 ghost use Rattle.printing.specs.Promises.{Lays};
-ghost use Rattle.lines.specs.Promises.{Wrote, turn_text, state_text};
+ghost use Rattle.lines.specs.Promises.{Wrote};
 ghost use Rattle.tracked.specs.Promises.{tracked_of, SameLoans};
 ghost use Rattle.turns.specs.Promises.{turned, completed_in};
 ghost use Rattle.walks.specs.Promises.{filled_text, fresh, line_text};
@@ -17,14 +16,14 @@ use stack::EvmStack;
 use tracked::TrackedStack;
 use turns::{completed, turn};
 
-// What a walk goes towards, and how many positions are completed so far.
+/// What a walk goes towards, and how many positions are completed so far.
 #[derive(Clone, Copy)]
 struct Walk<'a> {
     target: &'a [u32],
     done: usize,
 }
 
-// The slots, where an operation has filled one, and the line's end.
+/// The slots, where an operation has filled one, and the line's end.
 fn put_filled(text: &mut Text, first: u32, before: usize, slots: &[u32])
     ensures lays { Lays text.old.out.now text.old.len (filled_text first before slots.now) text.new.out.now text.new.len }
     ensures same { text.new.out.ghost_name ≡ text.old.out.ghost_name }
@@ -36,7 +35,7 @@ fn put_filled(text: &mut Text, first: u32, before: usize, slots: &[u32])
     text.put(b"\n");
 }
 
-// The line of the start, under the names of the columns.
+/// The line of the start, under the names of the columns.
 fn put_start(text: &mut Text, done: usize, values: &[u32])
     ensures wrote { Wrote text.old.out.now text.old.len text.new.out.now text.new.len }
     ensures same { text.new.out.ghost_name ≡ text.old.out.ghost_name }
@@ -48,7 +47,7 @@ fn put_start(text: &mut Text, done: usize, values: &[u32])
 }
 
 impl Walk<'_> {
-    // One operation: carried out, counted, shown.
+    /// One operation: carried out, counted, shown.
     fn put_one(&mut self, text: &mut Text, current: &mut TrackedStack, index: usize, item: Record)
         ensures target { self.new.target ≡ self.old.target }
         ensures loans { SameLoans current.old current.new }
@@ -70,7 +69,7 @@ impl Walk<'_> {
         put_filled(text, current.first, before, current.underlying_spilled());
     }
 
-    // A line for each operation of the words.
+    /// A line for each operation of the words.
     fn put_turns(&mut self, text: &mut Text, current: &mut TrackedStack, words: &[u32])
         ensures wrote { Wrote text.old.out.now text.old.len text.new.out.now text.new.len }
         ensures same { text.new.out.ghost_name ≡ text.old.out.ghost_name }
