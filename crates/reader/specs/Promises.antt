@@ -1,5 +1,6 @@
 -- Which words are a record's.
-use Rattle.std.specs.Prelude.{ℕ, ◌+◌, List, [], ◌∷◌, get_or, drop}
+use Rattle.std.specs.Prelude.{ℕ, ◌+◌, ◌≡◌, List, [], ◌∷◌, get_or, drop, Option, None, Some}
+use Rattle.std.specs.Iterator.{YieldsFirst}
 use Rattle.reader.specs.declared.Record.{Record}
 use Rattle.reader.specs.declared.Reader.{Reader}
 
@@ -16,3 +17,12 @@ records (k ∷ a ∷ ws) = record { kind = k; argument = a } ∷ records ws
 -- the records that a reader has still to give
 abbrev pub left : Reader → List Record
 left r = records (drop r.at r.words.now)
+
+-- the place after a call of `next`: two words on where there was a record
+abbrev pub moved : Option Record → ℕ → ℕ
+moved None at = at
+moved (Some x) at = at + 2
+
+-- a call of `next`: the first record that is left, or none; the words stay, and the place moves on
+abbrev pub Reads : Reader → Option Record → Reader → Type 0
+Reads old item new = YieldsFirst left old item new × (new.words ≡ old.words) × (new.at ≡ moved item old.at)

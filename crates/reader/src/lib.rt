@@ -22,16 +22,10 @@ pub struct Reader<'a> {
 pub fn read_at(words: &[u32], at: usize) -> Record
     ensures { result ≡ record_at words.now at }
 {
-    match words.get(at..) {
-        Some([kind, argument, ..]) => Record {
-            kind: *kind,
-            argument: *argument,
-        },
-        Some([kind, ..]) => Record {
-            kind: *kind,
-            argument: 0,
-        },
-        _ => Record::default(),
+    let word = |place: usize| words.get(place).copied().unwrap_or(0);
+    Record {
+        kind: word(at),
+        argument: word(at.saturating_add(1)),
     }
 }
 
@@ -48,10 +42,10 @@ impl<'a> Reader<'a> {
 impl Iterator for Reader<'_> {
     type Item = Record;
 
-    ghost use Rattle.std.specs.Iterator.{YieldsFirst, item_count};
-    ghost use Rattle.reader.specs.Promises.{left};
+    ghost use Rattle.std.specs.Iterator.{item_count};
+    ghost use Rattle.reader.specs.Promises.{left, Reads};
 
-    ghost next_gives = { YieldsFirst left };
+    ghost next_gives = { Reads };
 
     ghost remaining = { item_count left };
 

@@ -1,5 +1,6 @@
 -- The whole list: what is left to replay from here gives the verdict of the whole.
-use Rattle.std.proofs.Common.{ℕ, zero, suc, ◌+◌, ◌%◌, ◌≤◌, ◌<◌, ◌≡◌, refl, ap, sym, ◌∙◌, arith, Bool, true, false}
+use Rattle.std.proofs.lemmas.List.{drop_more, drop_all}
+use Rattle.std.proofs.Common.{ℕ, zero, suc, ◌+◌, ◌*◌, ◌/◌, ◌%◌, ◌≤◌, ◌<◌, ◌≡◌, refl, ap, sym, ◌∙◌, arith, Bool, true, false}
 use Rattle.std.proofs.Common.{List, [], ◌∷◌, length, get_or, take, drop, take-append-drop, length-take-le, take-suc-set, drop-set-lt, length-set, drop-drop, add-one}
 use Rattle.std.proofs.Common.{Option, None as none, Some as some, Result, Ok, Err, eq-eqb, leb-false, le-ltb, eqb, leb, if◌then◌else◌}
 use Rattle.scope.specs.declared.Op.{Op}
@@ -13,7 +14,7 @@ use Rattle.scope.specs.Shuffle.{job_code}
 use Rattle.scope.specs.Replay.{replay, Verdict, verdict, decoded, op_fault, fault, replay_from}
 use Rattle.scope.specs.Once.{Lent, job_lent, seen_verdict, check_due}
 use Rattle.reader.specs.declared.Record.{Record}
-use Rattle.reader.specs.Promises.{records}
+use Rattle.reader.specs.Promises.{records, record_at}
 use Rattle.replay.specs.declared.Fault.{Fault}
 use Rattle.replay.specs.declared.Fault.TheVariants as faults
 use Rattle.replay.specs.declared.Replay.{Replay}
@@ -40,6 +41,18 @@ pub length-records : (ws : List ℕ) → length (records ws) ≤ length ws
 length-records [] = omega arith
 length-records (k ∷ []) = omega arith
 length-records (k ∷ a ∷ ws) = let h = length-records ws in omega arith
+
+-- the records from a place on: the one there, and those behind it; none at the end
+pub next-record : (ws : List ℕ) (i : ℕ) (x : Record) → i < length ws / 2 → x ≡ record_at ws (2 * i)
+    → records (drop (2 * i) ws) ≡ x ∷ records (drop (2 * (i + 1)) ws)
+next-record ws i x h q =
+    let at = 2 * i in
+    let e : at + 1 + 1 ≡ 2 * (i + 1) = omega arith in
+    ap records (drop_more ws at 0 (omega (arith, h)) ∙ ap (λ (l : List ℕ). get_or ws at 0 ∷ l) (drop_more ws (at + 1) 0 (omega (arith, h))))
+    ∙ ap (λ (k : ℕ). record_at ws at ∷ records (drop k ws)) e ∙ ap (λ (y : Record). y ∷ records (drop (2 * (i + 1)) ws)) (sym q)
+
+pub no-record : (ws : List ℕ) (i : ℕ) → length ws % 2 ≡ 0 → length ws / 2 ≤ i → records (drop (2 * i) ws) ≡ []
+no-record ws i even h = ap records (drop_all (2 * i) ws (omega (arith, even, h)))
 
 -- ---- a fault has a code
 

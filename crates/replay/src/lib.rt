@@ -12,7 +12,7 @@ ghost use Rattle.replay.specs.Promises.{seen, lent_to, lent_now, seen_now, repla
 ghost use Rattle.replay.specs.Promises.{SameLoans, SameRun, Plays, job_of, values_now, slots_now, slot_at};
 
 use operations::ScheduleConfig;
-use reader::{Reader, Record};
+use reader::{Record, read_at};
 use scope::{Op, Refusal};
 use stack::EvmStack;
 
@@ -115,11 +115,43 @@ pub(crate) struct Replay<'a> {
     pub(crate) gas: u64,
 }
 
+/// Whether there is such a job, for a start and a target of these heights.
+fn check_job(
+    config: ScheduleConfig,
+    start: usize,
+    target: usize,
+    filled: usize,
+    slots: usize,
+    first: u32,
+) -> Result<(), Refusal>
+    ensures { code result ≡ job_code config.max_swap_depth start target filled slots first }
+{
+    if config.max_swap_depth == 0 {
+        return Err(Refusal::Limit);
+    }
+    if 1024 < start {
+        return Err(Refusal::Start);
+    }
+    if 1024 < target {
+        return Err(Refusal::Target);
+    }
+    if slots < filled {
+        return Err(Refusal::Filled);
+    }
+    if ((u32::MAX - first) as usize) < slots {
+        return Err(Refusal::Slots);
+    }
+    Ok(())
+}
+
 /// An argument as a depth, where a limit lets it through.
 fn within(argument: u32, limit: u8) -> Option<u8>
     ensures { result ≡ (if nat_lt limit argument then none else some argument) }
 {
-    u8::try_from(argument).ok().filter(|depth| *depth <= limit)
+    if argument > u32::from(limit) {
+        return None;
+    }
+    Some(argument as u8)
 }
 
 /// The gas with one operation more: a sum that stays at the largest `u64`.
@@ -130,29 +162,6 @@ fn more_gas(gas: u64, op: Op) -> u64
 }
 
 impl Replay<'_> {
-    /// Whether there is such a job, for a start and a target of these heights.
-    fn check_job(&self, start: usize, target: usize) -> Result<(), Refusal>
-        ensures { code result
-            ≡ job_code self.now.config.max_swap_depth start target self.now.filled (length self.now.spill.now) self.now.first }
-    {
-        if self.config.max_swap_depth == 0 {
-            return Err(Refusal::Limit);
-        }
-        if 1024 < start {
-            return Err(Refusal::Start);
-        }
-        if 1024 < target {
-            return Err(Refusal::Target);
-        }
-        if self.spill.len() < self.filled {
-            return Err(Refusal::Filled);
-        }
-        if ((u32::MAX - self.first) as usize) < self.spill.len() {
-            return Err(Refusal::Slots);
-        }
-        Ok(())
-    }
-
     /// Kind 1: depths 0 and `argument` exchanged.
     #[tactic(auto, unfolding(scope::specs::Stack::exchange_on))]
     fn swap(&mut self, argument: u32) -> Result<Op, Fault>
@@ -270,8 +279,8 @@ impl Replay<'_> {
             return Err(Fault::Odd);
         }
         self.stack.lay(start)?;
-        for item in Reader::new(ops) {
-            let op = self.turn(item)?;
+        for index in 0..ops.len() / 2 {
+            let op = self.turn(read_at(ops, 2 * index))?;
             self.gas = more_gas(self.gas, op);
             self.index += 1;
         }
@@ -296,6 +305,21 @@ pub fn check(
     ensures { seen result spill.new
         ≡ check_due (lent_to start.now spill.old filled first target.now config.max_swap_depth config.max_dup_depth ops.now) }
 {
+    if let Err(refusal) = check_job(
+        config,
+        start.len(),
+        target.len(),
+        filled,
+        spill.len(),
+        first,
+    ) {
+        return Verdict {
+            outcome: Err(refusal.into()),
+            index: 0,
+            gas: 0,
+            filled: 0,
+        };
+    }
     let mut stack = EvmStack::new();
     let mut replay = Replay {
         stack: &mut stack,
@@ -306,14 +330,6 @@ pub fn check(
         index: 0,
         gas: 0,
     };
-    if let Err(refusal) = replay.check_job(start.len(), target.len()) {
-        return Verdict {
-            outcome: Err(refusal.into()),
-            index: 0,
-            gas: 0,
-            filled: 0,
-        };
-    }
     let outcome = replay.run(start, target, ops);
     Verdict {
         outcome,

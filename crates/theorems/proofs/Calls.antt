@@ -227,6 +227,14 @@ tried-same = loses-nothing step told tells
 both : {A B : Type 0} {x x' : A} {y y' : B} → x ≡ x' → y ≡ y' → ◌≡◌ {A = A × B} (x, y) (x', y')
 both p q = rw (p, q)
 
+-- the answer of a `try_` method, by its code and its operation
+pub tried-once : (a b : Result Op Refusal) → code a ≡ code b → step_op (step a) ≡ step_op (step b) → a ≡ b
+tried-once a b p q = tried-same a b (step_same (step a) (step b) (both (told a ∙ p ∙ sym (told b)) q))
+  where
+    told : (r : Result Op Refusal) → step_code (step r) ≡ code r
+    told (Ok o) = refl
+    told (Err r) = refl
+
 -- a stack's call that may change it, by its clauses: code, stack, words
 pub leaves-once : (left : Left) (before : List ℕ) (a b : Result Unit Refusal) (s t : EvmStack)
     → code a ≡ left.code → stack_in s ≡ left.stack → s.stack_raw ≡ laid left.stack.values before

@@ -3,3 +3,4 @@ pub mod Carried
 pub mod Statements
 pub mod ShutOut
 pub mod Calls
+pub mod Told

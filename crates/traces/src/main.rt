@@ -35,17 +35,17 @@ fn write_ends(out: &mut impl Write, lines: &[u8]) -> io::Result<()> {
     Ok(())
 }
 
-/// The trace of a job.
+/// The trace of a job. The lines are lent, here and below: so many bytes stand on the stack once.
 fn job<R: Files + Eprint>(
     out: &mut impl Write,
     inputs: &mut Inputs<'_, R>,
+    lines: &mut [u8],
     path: &str,
 ) -> io::Result<()> {
     let mut bytes = [0u8; 16421];
-    let mut lines = room();
     writeln!(out, "{path}")?;
     let n = read(inputs, path, &mut bytes)?;
-    let len = trace_job(&bytes[..n], &mut lines);
+    let len = trace_job(&bytes[..n], lines);
     out.write_all(&lines[..len.min(lines.len())])
 }
 
@@ -53,13 +53,13 @@ fn job<R: Files + Eprint>(
 fn long_job<R: Files + Eprint>(
     out: &mut impl Write,
     inputs: &mut Inputs<'_, R>,
+    lines: &mut [u8],
     path: &str,
 ) -> io::Result<()> {
     let mut bytes = [0u8; 16421];
-    let mut lines = room();
     writeln!(out, "{path}")?;
     let n = read(inputs, path, &mut bytes)?;
-    let len = trace_job(&bytes[..n], &mut lines);
+    let len = trace_job(&bytes[..n], lines);
     write_ends(out, &lines[..len.min(lines.len())])
 }
 
@@ -67,16 +67,16 @@ fn long_job<R: Files + Eprint>(
 fn list<R: Files + Eprint>(
     out: &mut impl Write,
     inputs: &mut Inputs<'_, R>,
+    lines: &mut [u8],
     path: &str,
     on: &str,
 ) -> io::Result<()> {
     let mut bytes = [0u8; 16421];
     let mut listed = [0u8; 16421];
-    let mut lines = room();
     writeln!(out, "{path} on {on}")?;
     let n = read(inputs, on, &mut bytes)?;
     let k = read(inputs, path, &mut listed)?;
-    let len = trace_list(&bytes[..n], &listed[..k], &mut lines);
+    let len = trace_list(&bytes[..n], &listed[..k], lines);
     out.write_all(&lines[..len.min(lines.len())])
 }
 
@@ -84,31 +84,39 @@ fn list<R: Files + Eprint>(
 fn words<R: Files + Eprint>(
     out: &mut impl Write,
     inputs: &mut Inputs<'_, R>,
+    lines: &mut [u8],
     name: &str,
     on: &str,
     list: &[u32],
 ) -> io::Result<()> {
     let mut bytes = [0u8; 16421];
-    let mut lines = room();
     writeln!(out, "{name} on {on}")?;
     let n = read(inputs, on, &mut bytes)?;
-    let len = trace_words(&bytes[..n], list, &mut lines);
+    let len = trace_words(&bytes[..n], list, lines);
     out.write_all(&lines[..len.min(lines.len())])
 }
 
 /// The runs worked by hand, A to L, and N both ways, which shows a stack that is cut.
-fn table<R: Files + Eprint>(out: &mut impl Write, inputs: &mut Inputs<'_, R>) -> io::Result<()> {
+fn table<R: Files + Eprint>(
+    out: &mut impl Write,
+    inputs: &mut Inputs<'_, R>,
+    lines: &mut [u8],
+) -> io::Result<()> {
     for path in [
         "a.job", "b.job", "c.job", "d.job", "e.job", "f.job", "g.job", "h.job", "i.job", "j.job",
         "k.job", "l.job", "n.job", "n2.job",
     ] {
-        job(out, inputs, path)?;
+        job(out, inputs, lines, path)?;
     }
     Ok(())
 }
 
 /// Each other code that a job can get from the driver.
-fn codes<R: Files + Eprint>(out: &mut impl Write, inputs: &mut Inputs<'_, R>) -> io::Result<()> {
+fn codes<R: Files + Eprint>(
+    out: &mut impl Write,
+    inputs: &mut Inputs<'_, R>,
+    lines: &mut [u8],
+) -> io::Result<()> {
     for path in [
         "code1.job",
         "code2.job",
@@ -117,14 +125,18 @@ fn codes<R: Files + Eprint>(out: &mut impl Write, inputs: &mut Inputs<'_, R>) ->
         "code5.job",
         "code10.job",
     ] {
-        job(out, inputs, path)?;
+        job(out, inputs, lines, path)?;
     }
-    long_job(out, inputs, "code11.job")?;
-    job(out, inputs, "empty.job")
+    long_job(out, inputs, lines, "code11.job")?;
+    job(out, inputs, lines, "empty.job")
 }
 
 /// Each verdict on a list from elsewhere, the driver's own output first.
-fn verdicts<R: Files + Eprint>(out: &mut impl Write, inputs: &mut Inputs<'_, R>) -> io::Result<()> {
+fn verdicts<R: Files + Eprint>(
+    out: &mut impl Write,
+    inputs: &mut Inputs<'_, R>,
+    lines: &mut [u8],
+) -> io::Result<()> {
     for (path, on) in [
         ("l.list", "l.job"),
         ("restored.list", "v.job"),
@@ -146,16 +158,34 @@ fn verdicts<R: Files + Eprint>(out: &mut impl Write, inputs: &mut Inputs<'_, R>)
         ("41.list", "code5.job"),
         ("41.list", "empty.job"),
     ] {
-        list(out, inputs, path, on)?;
+        list(out, inputs, lines, path, on)?;
     }
     Ok(())
 }
 
 /// Words that are no list, and lists that cannot be read.
-fn no_lists<R: Files + Eprint>(out: &mut impl Write, inputs: &mut Inputs<'_, R>) -> io::Result<()> {
-    words(out, inputs, "3 words", "v.job", &[3, 0, 3])?;
-    words(out, inputs, "an unknown kind", "v.job", &[3, 0, 6, 258])?;
-    words(out, inputs, "a Pop with an argument", "v.job", &[3, 7])?;
+fn no_lists<R: Files + Eprint>(
+    out: &mut impl Write,
+    inputs: &mut Inputs<'_, R>,
+    lines: &mut [u8],
+) -> io::Result<()> {
+    words(out, inputs, lines, "3 words", "v.job", &[3, 0, 3])?;
+    words(
+        out,
+        inputs,
+        lines,
+        "an unknown kind",
+        "v.job",
+        &[3, 0, 6, 258],
+    )?;
+    words(
+        out,
+        inputs,
+        lines,
+        "a Pop with an argument",
+        "v.job",
+        &[3, 7],
+    )?;
     for path in [
         "spelling.list",
         "zero.list",
@@ -164,7 +194,7 @@ fn no_lists<R: Files + Eprint>(out: &mut impl Write, inputs: &mut Inputs<'_, R>)
         "answer.list",
         "many.list",
     ] {
-        list(out, inputs, path, "v.job")?;
+        list(out, inputs, lines, path, "v.job")?;
     }
     Ok(())
 }
@@ -172,9 +202,10 @@ fn no_lists<R: Files + Eprint>(out: &mut impl Write, inputs: &mut Inputs<'_, R>)
 fn main(rt: HostRuntime) -> io::Result<ExitCode> {
     let mut out = io::writer(&rt);
     let mut inputs = Inputs::new(&rt);
-    table(&mut out, &mut inputs)?;
-    codes(&mut out, &mut inputs)?;
-    verdicts(&mut out, &mut inputs)?;
-    no_lists(&mut out, &mut inputs)?;
+    let mut lines = room();
+    table(&mut out, &mut inputs, &mut lines)?;
+    codes(&mut out, &mut inputs, &mut lines)?;
+    verdicts(&mut out, &mut inputs, &mut lines)?;
+    no_lists(&mut out, &mut inputs, &mut lines)?;
     Ok(inputs.status())
 }

@@ -3,6 +3,7 @@
 #![tactic(auto)]
 
 ghost use Rattle.std.specs.Prelude.{◌≡◌, length};
+ghost use Rattle.scope.specs.Tracked.{stored_in};
 ghost use Rattle.lines.specs.Promises.{Wrote};
 
 use answer::Answer;
@@ -29,7 +30,13 @@ pub(crate) struct Given<'a> {
 }
 
 impl<'a> Given<'a> {
-    fn new(job: Job, lists: &'a JobWords) -> Given<'a> {
+    /// Each list cut to its count; a count past an array's end stands for the whole array.
+    fn new(job: Job, lists: &'a JobWords) -> Given<'a>
+        ensures job { result.job ≡ job }
+        ensures start { result.start.now ≡ stored_in job.starts lists.now.start }
+        ensures spilled { result.spilled.now ≡ stored_in job.spills lists.now.spilled }
+        ensures target { result.target.now ≡ stored_in job.targets lists.now.target }
+    {
         Given {
             job,
             start: &lists.start[..job.starts.min(4096)],

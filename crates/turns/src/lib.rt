@@ -12,29 +12,41 @@ use operations::ScheduleConfig;
 use questions::View;
 use reader::Record;
 use rules::counting::update_complete_at_bottom;
-use scope::{Op, Step};
+use scope::Op;
 use tracked::TrackedStack;
 
-/// Carries out an operation by the call that it names. A `Store` takes the next slot, whichever it says.
+/// Carries out an operation by the call that it names, in words of its own, which have room for one. A `Store` takes the next slot,
+/// whichever it says.
 #[tactic(auto, unfolding(crate::specs::Promises::step_of))]
-fn perform(current: &mut TrackedStack, op: Op) -> Step
+fn perform(current: &mut TrackedStack, op: Op)
     ensures loans { SameLoans current.old current.new }
     ensures state { tracked_of current.new ≡ (step_of op current.old).step.state }
     ensures array { current.new.stack.now.stack_raw
         ≡ laid (step_of op current.old).step.state.stack.values current.old.stack.now.stack_raw }
     ensures slots { current.new.spill.now ≡ (step_of op current.old).spill }
-    ensures words { current.new.ops.now ≡ (step_of op current.old).step.words }
+    ensures words { current.new.ops.now ≡ current.old.ops.now }
 {
+    let mut words = [0u32; 2];
+    let mut alone = TrackedStack {
+        stack: &mut *current.stack,
+        ops: &mut words,
+        spill: &mut *current.spill,
+        first: current.first,
+        filled: current.filled,
+        written: current.written,
+    };
     match op {
-        Op::Swap(depth) => current.swap(depth),
-        Op::Dup(depth) => current.dup(depth),
-        Op::Pop => current.pop(),
-        Op::Store(_) => current.spill_top(),
-        Op::Load(id) => current.load(id),
-    }
+        Op::Swap(depth) => alone.swap(depth),
+        Op::Dup(depth) => alone.dup(depth),
+        Op::Pop => alone.pop(),
+        Op::Store(_) => alone.spill_top(),
+        Op::Load(id) => alone.load(id),
+    };
+    current.filled = alone.filled;
+    current.written = alone.written;
 }
 
-/// The same for an operation's words; where they are none, nothing changes.
+/// The same for an operation's words; where they are none, nothing changes. The words that are lent for operations stay as they are.
 #[tactic(auto, using(stack::proofs::Laws::laid_fifo))]
 pub fn turn(current: &mut TrackedStack, item: Record)
     ensures loans { SameLoans current.old current.new }
@@ -42,7 +54,7 @@ pub fn turn(current: &mut TrackedStack, item: Record)
     ensures array { current.new.stack.now.stack_raw
         ≡ laid (turned item current.old).step.state.stack.values current.old.stack.now.stack_raw }
     ensures slots { current.new.spill.now ≡ (turned item current.old).spill }
-    ensures words { current.new.ops.now ≡ (turned item current.old).step.words }
+    ensures words { current.new.ops.now ≡ current.old.ops.now }
 {
     if let Some(op) = read_op(item.kind, item.argument) {
         perform(current, op);

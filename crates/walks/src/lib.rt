@@ -94,10 +94,9 @@ pub fn put_walk(
     ensures same { text.new.out.ghost_name ≡ text.old.out.ghost_name }
 {
     let mut stack = EvmStack::from_fifo(start).unwrap_or(EvmStack::new());
-    let mut ops = [0u32; 2];
     let mut current = TrackedStack {
         stack: &mut stack,
-        ops: &mut ops,
+        ops: &mut [],
         spill,
         first,
         filled,

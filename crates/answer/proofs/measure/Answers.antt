@@ -16,12 +16,12 @@ loop-item-init c =
 pub returns-in_err-op-clause-all : goal.returns-in_err-op-clause-all
 returns-in_err-op-clause-all c =
     c.from_residual.ensures
-    ∙ counted-none _ _ _ _ c.loop-item.invariant.0 _ _ c.in-Some.ensures.steps (sym c.in_err-op.was ∙ c.read_op.ensures)
+    ∙ counted-none _ _ _ _ c.loop-item.invariant.0 _ _ c.in-Some.ensures.steps.0 (sym c.in_err-op.was ∙ c.read_op.ensures)
 
 pub loop-item-preserved : goal.loop-item-preserved
 loop-item-preserved c =
-    let n = ap length c.in-Some.ensures.steps in
+    let n = ap length c.in-Some.ensures.steps.0 in
     (search (counted-more, rules), omega (arith, n, c.printed_len.ensures.1), omega (arith, n, c.gas-gas.ensures, little c.in_ok-op.op))
 
 pub returns-clause-all : goal.returns-clause-all
-returns-clause-all c = counted-end _ _ _ _ c.loop-item.invariant.0 c.in-None.ensures.steps.0
+returns-clause-all c = counted-end _ _ _ _ c.loop-item.invariant.0 c.in-None.ensures.steps.0.0

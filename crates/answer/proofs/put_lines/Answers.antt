@@ -8,13 +8,13 @@ loop-item-init c = (λ os e. let s = lines-start c.args.words.now c.args.text.no
 
 pub loop-item-preserved-in-Some-read_op : goal.loop-item-preserved-in-Some-read_op
 loop-item-preserved-in-Some-read_op c = (
-  λ os e. one-line (c.loop-item.invariant.0 os e) _ _ c.in-Some.ensures.steps c.in-Some-read_op.op _ _ _ _ _
+  λ os e. one-line (c.loop-item.invariant.0 os e) _ _ c.in-Some.ensures.steps.0 c.in-Some-read_op.op _ _ _ _ _
       (sym c.in-Some-read_op.is ∙ c.read_op.ensures) c.into.ensures c.operation.ensures.lays c.put.ensures.lays,
   search rules,
 )
 
 pub loop-item-preserved : goal.loop-item-preserved
-loop-item-preserved c = (λ os e. no-line (c.loop-item.invariant.0 os e) _ _ c.in-Some.ensures.steps (search rules), c.loop-item.invariant.1)
+loop-item-preserved c = (λ os e. no-line (c.loop-item.invariant.0 os e) _ _ c.in-Some.ensures.steps.0 (search rules), c.loop-item.invariant.1)
 
 pub returns-clause-lays : goal.returns-clause-lays
-returns-clause-lays c os e = lines-end (c.loop-item.invariant.0 os e) c.in-None.ensures.steps.0
+returns-clause-lays c os e = lines-end (c.loop-item.invariant.0 os e) c.in-None.ensures.steps.0.0

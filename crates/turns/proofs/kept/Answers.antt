@@ -1,5 +1,5 @@
 -- Std's search, said in scope's words.
-use Rattle.std.proofs.Common.{◌≡◌, ℕ, List, Option, None as none, Some as some, min, length, arith, rules, tests, refl, ap, ◌∙◌}
+use Rattle.std.proofs.Common.{◌≡◌, ℕ, List, Option, None as none, Some as some, arith, rules, tests, refl}
 use Rattle.std.specs.Option.{unwrap_or}
 use Rattle.scope.specs.Words.{lowest}
 use Rattle.scope.specs.Rules.{differs}
